@@ -1,0 +1,33 @@
+-- What a call answers (01, "Answers of a call"), and how it packs into one number for C.
+-- Assumes nothing: these are definitions.
+use Prim.Native.Nat.{ℕ, _+_, _*_, _^_}
+use mathlib.Core.Bool.{cond}
+use lib.Dec.{eqb}
+use Rattle.answers.specs.declared.Answer.{Answer}
+
+-- the refusals of 01's table that stand today, by name
+abbrev pub unsoundImage : ℕ
+unsoundImage = 6
+
+abbrev pub wrongLength : ℕ
+wrongLength = 7
+
+-- the SCSI status CHECK CONDITION
+abbrev pub checkCondition : ℕ
+checkCondition = 0x02
+
+-- a refusal returns its number, 0, 0
+abbrev pub refused : ℕ → Answer
+refused n = record { refusal = n; status = 0; carried = 0 }
+
+-- a house service done: 0, 0, 0
+abbrev pub done : Answer
+done = record { refusal = 0; status = 0; carried = 0 }
+
+-- bits 0 to 31 the bytes carried, 32 to 34 the refusal, bit 35 set for the status 02h
+unfoldable pub packed : Answer → ℕ
+packed a = a .carried + a .refusal * 2 ^ 32 + cond (eqb (a .status) checkCondition) (2 ^ 35) 0
+
+-- the view's answer: the length in bits 0 to 31, the start above
+unfoldable pub packedPart : ℕ → ℕ → ℕ
+packedPart start len = start * 2 ^ 32 + len

@@ -1,0 +1,57 @@
+// What a call answers: three numbers, and how they pack into one for C.
+ghost use mathlib.Core.Path.{_≡_};
+ghost use Prim.Native.Nat.{_<_, _^_};
+ghost use Rattle.answers.specs.Answers.{packed, packedPart};
+ghost use Rattle.answers.specs.Answers.{refused as Answers·refused, done as Answers·done};
+
+// The refusals of document 01's table.
+pub const UNSOUND_IMAGE: u8 = 6;
+
+pub const WRONG_LENGTH: u8 = 7;
+
+// The SCSI status CHECK CONDITION.
+pub const CHECK_CONDITION: u8 = 0x02;
+
+// Refusal (0 for none), SCSI status, bytes carried.
+pub struct Answer {
+    pub refusal: u8,
+    pub status: u8,
+    pub carried: u32,
+}
+
+pub fn refused(number: u8) -> Answer
+    ensures { λ r. ⌜ r ≡ Answers·refused number ⌝ }
+{
+    Answer {
+        refusal: number,
+        status: 0,
+        carried: 0,
+    }
+}
+
+pub fn done() -> Answer
+    ensures { λ r. ⌜ r ≡ Answers·done ⌝ }
+{
+    Answer {
+        refusal: 0,
+        status: 0,
+        carried: 0,
+    }
+}
+
+pub fn pack(a: Answer) -> u64
+    ensures { λ r. ⌜ r ≡ packed a ⌝ }
+{
+    let bits = (a.carried as u64) + (a.refusal as u64) * 0x1_0000_0000;
+    if a.status == CHECK_CONDITION {
+        return bits + 0x8_0000_0000;
+    }
+    bits
+}
+
+// A part of a partition: where it starts, and its length.
+pub fn pack_part(start: u32, len: u32) -> u64
+    ensures { λ r. ⌜ r ≡ packedPart start len ⌝ }
+{
+    (start as u64) << 32 | len as u64
+}

@@ -1,0 +1,102 @@
+// Whether an image is sound, and the refusals 7 and 6 of an image.
+ghost use mathlib.Core.Path.{_≡_};
+ghost use Prim.Native.Nat.{_+_, _*_, _≤_};
+ghost use lib.ListN.{length};
+ghost use Rattle.image.specs.Image.{trailerLength, entryLength, follows, ordered, rightLength, sound};
+ghost use Rattle.image.specs.Services.{faultOf};
+use crate::entries::ENTRY;
+use crate::entries::TRAILER;
+use crate::entries::count_of;
+use crate::entries::end_at;
+use crate::entries::end_of;
+use crate::entries::entry_at;
+use crate::entries::flags_of;
+use crate::entries::marks;
+use words::be32_at;
+
+const LEAST_LENGTH: usize = 64;
+
+const MOST_LENGTH: usize = 1_073_741_824;
+
+// The largest block.
+pub const LARGEST_BLOCK: u32 = 65_536;
+
+// How many flag bits have a meaning.
+const FLAG_BITS: u32 = 1;
+
+// Whether the entry e is right after the end p.
+fn entry_follows(p: u32, e: u32) -> bool
+    ensures { λ r. ⌜ r ≡ follows p e ⌝ }
+{
+    let end = end_of(e);
+    if marks(e) {
+        return end == p;
+    }
+    if end <= p {
+        return false;
+    }
+    end - p <= LARGEST_BLOCK
+}
+
+// Whether the entries of the first n objects are right. There is no way out of the loop but its end, so that it is
+// compiled to vector code.
+fn entries_follow(s: &[u8], n: usize) -> bool
+    requires { ⌜ entryLength * n + trailerLength ≤ length (now s) ⌝ }
+    ensures { λ r. ⌜ r ≡ ordered (now (s .entry)) n ⌝ }
+{
+    let mut ok: bool = true;
+    let mut i: usize = 0;
+    while i < n {
+        ok = ok & entry_follows(end_at(s, i), entry_at(s, i));
+        i += 1;
+    }
+    ok
+}
+
+// Whether s has a length that an image may have.
+pub fn has_right_length(s: &[u8]) -> bool
+    ensures { λ r. ⌜ r ≡ rightLength (now (s .entry)) ⌝ }
+{
+    if s.len() < LEAST_LENGTH {
+        return false;
+    }
+    s.len() <= MOST_LENGTH
+}
+
+// Whether s is a sound image.
+pub fn is_sound(s: &[u8]) -> bool
+    ensures { λ r. ⌜ r ≡ sound (now (s .entry)) ⌝ }
+{
+    if !has_right_length(s) {
+        return false;
+    }
+    let len = s.len();
+    if be32_at(s, len - 4) as usize != len {
+        return false;
+    }
+    if flags_of(s) >> FLAG_BITS != 0 {
+        return false;
+    }
+    let d = be32_at(s, len - 8);
+    let n = count_of(s) as usize;
+    if d as usize + ENTRY * n + TRAILER != len {
+        return false;
+    }
+    if !entries_follow(s, n) {
+        return false;
+    }
+    end_at(s, n) <= d
+}
+
+// The refusal of an image: 7 for its length, then 6 where it is not sound, else 0.
+pub fn fault_of(s: &[u8]) -> u8
+    ensures { λ r. ⌜ r ≡ faultOf (now (s .entry)) ⌝ }
+{
+    if !has_right_length(s) {
+        return answers::WRONG_LENGTH;
+    }
+    if !is_sound(s) {
+        return answers::UNSOUND_IMAGE;
+    }
+    0
+}

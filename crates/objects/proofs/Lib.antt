@@ -1,0 +1,5 @@
+pub mod Walk
+pub mod Residue
+pub mod Standing
+pub mod Count
+pub mod Cases

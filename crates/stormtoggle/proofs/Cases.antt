@@ -1,0 +1,74 @@
+-- How each service comes to its outcome, test by test: one law for each return of the code.
+-- Assumes nothing.
+use Prim.Native.Nat.{ℕ}
+use mathlib.Core.Bool.{Bool, true, false, not}
+use mathlib.Core.Path.{_≡_, refl, ap, _∙_}
+use mathlib.Core.List.{List}
+use borrow.Author.Tests.{eq-eqb, ne-eqb, not-true, not-false}
+use Rattle.answers.specs.declared.Answer.{Answer}
+use Rattle.answers.specs.Answers.{refused, done, wrongLength, packed}
+use Rattle.image.specs.declared.part.Part.{Part}
+use Rattle.image.specs.Image.{rightLength}
+use Rattle.image.specs.Changes.{blank, protect}
+use Rattle.image.specs.Services.{Left, left, blankCall, faultOf, protectCall, emptyPart, partOf, shown, placed, viewOf}
+use Rattle.stormtoggle.specs.Calls.{numbered}
+use Rattle.stormtoggle.specs.Views.{chosen, chosenPlace}
+
+-- ---- blank
+
+module _ (s : List ℕ) (r : Bool) (er : r ≡ rightLength s) (a : Answer) where
+  pub blank-refused : not r ≡ true → a ≡ refused wrongLength → left a s ≡ blankCall s
+  unfolding blankCall
+  blank-refused h e = rw (← er, not-true r h, e) refl
+
+  pub blank-done : not r ≡ false → (t : List ℕ) → t ≡ blank s → a ≡ done → left a t ≡ blankCall s
+  unfolding blankCall
+  blank-done h t et e = rw (← er, not-false r h, e, et) refl
+
+-- ---- protection
+
+module _ (on : Bool) (s : List ℕ) (f : ℕ) (ef : f ≡ faultOf s) (a : Answer) where
+  pub protect-refused : (f ≡ 0 → ⊥) → a ≡ refused f → left a s ≡ protectCall on s
+  unfolding protectCall
+  protect-refused h e = rw (← ef, ne-eqb f 0 h, e) refl
+
+  pub protect-done : f ≡ 0 → (t : List ℕ) → t ≡ protect on s → a ≡ done → left a t ≡ protectCall on s
+  unfolding protectCall
+  protect-done h t et e = rw (← ef, eq-eqb f 0 h, e, et) refl
+
+-- ---- for C: the answer packed
+
+pub numbered-is : (n : ℕ) (a : Answer) (t : List ℕ) (o : Left) → n ≡ packed a → left a t ≡ o → (n, t) ≡ numbered o
+numbered-is n a t o en eo = ap (λ (k : ℕ). (k, t)) en ∙ ap numbered eo
+
+-- ---- the view, by the partition's number
+
+-- what a part of the chosen slice is, in bytes and in place
+abbrev pub Seen : List ℕ → ℕ × ℕ → List ℕ → ℕ × ℕ → Part → Type 0
+Seen r q s place p = (r ≡ shown s p) × (q ≡ placed place p)
+
+module _ (p0 p1 : List ℕ) (q0 q1 : ℕ × ℕ) (k i : ℕ) (r : List ℕ) (q : ℕ × ℕ) where
+  pub view-0 : k ≡ 0 → Seen r q p0 q0 (partOf p0 i) → Seen r q (chosen p0 p1 k) (chosenPlace q0 q1 k) (viewOf p0 p1 k i)
+  unfolding viewOf
+  view-0 h e = rw (h) e
+
+  pub view-1 : k ≡ 1 → Seen r q p1 q1 (partOf p1 i) → Seen r q (chosen p0 p1 k) (chosenPlace q0 q1 k) (viewOf p0 p1 k i)
+  unfolding viewOf
+  view-1 h e = rw (h) e
+
+  pub view-other : (k ≡ 0 → ⊥) → (k ≡ 1 → ⊥) → Seen r q p0 q0 emptyPart → Seen r q (chosen p0 p1 k) (chosenPlace q0 q1 k) (viewOf p0 p1 k i)
+  unfolding viewOf
+  view-other h g e = rw (ne-eqb k 0 h, ne-eqb k 1 g) e
+
+module _ (p0 p1 : List ℕ) (k i : ℕ) (p : Part) where
+  pub part-0 : k ≡ 0 → p ≡ partOf p0 i → p ≡ viewOf p0 p1 k i
+  unfolding viewOf
+  part-0 h e = rw h e
+
+  pub part-1 : k ≡ 1 → p ≡ partOf p1 i → p ≡ viewOf p0 p1 k i
+  unfolding viewOf
+  part-1 h e = rw h e
+
+  pub part-other : (k ≡ 0 → ⊥) → (k ≡ 1 → ⊥) → p ≡ emptyPart → p ≡ viewOf p0 p1 k i
+  unfolding viewOf
+  part-other h g e = rw (ne-eqb k 0 h, ne-eqb k 1 g) e

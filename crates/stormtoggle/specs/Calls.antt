@@ -1,0 +1,14 @@
+-- What the C entry points leave: a service's outcome, with the answer packed into one number.
+-- Assumes nothing: these are definitions.
+use Prim.Native.Nat.{ℕ}
+use mathlib.Core.List.{List}
+use Rattle.answers.specs.Answers.{packed, packedPart}
+use Rattle.image.specs.Services.{Left, viewOf}
+
+-- a service on one image: the number returned, and the image
+abbrev pub numbered : Left → ℕ × List ℕ
+numbered o = (packed (o .answer), o .image)
+
+-- the view: start and length of the part, 0 if empty
+abbrev pub viewNumber : List ℕ → List ℕ → ℕ → ℕ → ℕ
+viewNumber p0 p1 k i = let p = viewOf p0 p1 k i in packedPart (p .start) (p .len)

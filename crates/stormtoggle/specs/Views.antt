@@ -1,0 +1,14 @@
+-- Which of the two lent partition slices the view's number names.
+-- Assumes nothing: these are definitions.
+use Prim.Native.Nat.{ℕ}
+use mathlib.Core.Bool.{cond}
+use mathlib.Core.List.{List}
+use lib.Dec.{eqb}
+
+-- the slice that a view is a part of: partition 1's for the number 1, else partition 0's (for another number the part is empty)
+abbrev pub chosen : List ℕ → List ℕ → ℕ → List ℕ
+chosen p0 p1 k = cond (eqb k 1) p1 p0
+
+-- and where it lies in memory
+abbrev pub chosenPlace : ℕ × ℕ → ℕ × ℕ → ℕ → ℕ × ℕ
+chosenPlace q0 q1 k = cond (eqb k 1) q1 q0

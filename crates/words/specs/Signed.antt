@@ -1,0 +1,15 @@
+-- Two's complement: a count read as an integer, and an integer in 32 bits (01: "Negative residues wrap to 32 bits in two's complement").
+-- Assumes nothing: these are definitions.
+use Prim.Native.Nat.{ℕ, suc, _+_, _-_, _%_, _^_}
+use mathlib.Core.Bool.{cond}
+use lib.Dec.{ltb}
+use lib.IntN.{ℤ, pos, negsuc}
+
+-- the integer that x stands for, where half is the first number that is negative: 2^23 for 24 bits, 2^63 for 64
+unfoldable pub signed : ℕ → ℕ → ℤ
+signed half x = cond (ltb x half) (pos x) (negsuc (half + half - suc x))
+
+-- z in 32 bits
+unfoldable pub wrapped : ℤ → ℕ
+wrapped (pos n) = n % 2 ^ 32
+wrapped (negsuc n) = 2 ^ 32 - suc (n % 2 ^ 32)

@@ -1,0 +1,25 @@
+# host.sh: sourced by the scripts that build or run x86-64 programs. Sets compiler, flags and runner, and installs what
+# is missing. The static library and the listing program are x86-64, so another machine crosses over and emulates.
+# shellcheck shell=bash
+
+# Installs Debian packages. Its output is kept off standard output, whose last line is a verdict.
+install_packages() { # PACKAGE...
+    [ $# -gt 0 ] || return 0
+    if ! { apt-get update && DEBIAN_FRONTEND=noninteractive apt-get install -y --no-install-recommends "$@"; } >&2 </dev/null; then
+        echo "host.sh: missing and could not be installed: $*"
+        return 1
+    fi
+}
+
+missing=()
+if [ "$(uname -m)" = x86_64 ]; then
+    compiler=cc runner=()
+    command -v cc >/dev/null || missing=(gcc libc6-dev)
+else
+    compiler=x86_64-linux-gnu-gcc runner=(qemu-x86_64 -L /usr/x86_64-linux-gnu)
+    command -v x86_64-linux-gnu-gcc >/dev/null || missing+=(gcc-x86-64-linux-gnu)
+    [ -e /usr/x86_64-linux-gnu/include/stdio.h ] || missing+=(libc6-dev-amd64-cross)
+    command -v qemu-x86_64 >/dev/null || missing+=(qemu-user)
+fi
+install_packages "${missing[@]}" || exit 1
+flags=(-std=c99 -pedantic -Wall -Wextra -Werror -Iinclude)

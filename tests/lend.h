@@ -1,0 +1,66 @@
+/* lend.h: bytes for the host-side tests to lend: between canaries, on read-only pages, or too many to hold. */
+#ifndef LEND_H
+#define LEND_H
+
+#include "check.h"
+#include <sys/mman.h>
+
+enum { CANARIES = 64, CANARY = 0xc5 };
+
+/* Bytes none of which is 0, as a fresh page or a blank would have it. */
+static inline uint8_t *patterned(size_t length)
+{
+    uint8_t *bytes = malloc(length + 1);
+    if (bytes == NULL)
+        abort();
+    for (size_t i = 0; i < length; i++)
+        bytes[i] = (uint8_t)(i % 251 + 3);
+    return bytes;
+}
+
+/* A copy of the bytes between canaries. */
+static inline uint8_t *lend(const uint8_t *bytes, size_t length)
+{
+    uint8_t *room = malloc(length + 2 * CANARIES);
+    if (room == NULL)
+        abort();
+    memset(room, CANARY, length + 2 * CANARIES);
+    if (length > 0)
+        memcpy(room + CANARIES, bytes, length);
+    return room + CANARIES;
+}
+
+/* Checks the canaries around lent bytes, and frees them. */
+static inline void take_back(uint8_t *lent, size_t length)
+{
+    uint8_t *room = lent - CANARIES;
+    int alive = 1;
+    for (size_t i = 0; i < CANARIES; i++)
+        alive = alive && room[i] == CANARY && lent[length + i] == CANARY;
+    expect(alive, "canaries around %zu lent bytes", length);
+    free(room);
+}
+
+/* A copy that ends where readable memory ends, on pages that cannot be written. */
+static inline uint8_t *sealed(const uint8_t *bytes, size_t length)
+{
+    size_t page = (size_t)sysconf(_SC_PAGESIZE), room = (length + page - 1) / page * page;
+    uint8_t *pages = mmap(NULL, room + page, PROT_READ | PROT_WRITE, MAP_PRIVATE | MAP_ANONYMOUS, -1, 0);
+    if (pages == MAP_FAILED)
+        abort();
+    memcpy(pages + room - length, bytes, length);
+    if (mprotect(pages, room, PROT_READ) != 0 || mprotect(pages + room, page, PROT_NONE) != 0)
+        abort();
+    return pages + room - length;
+}
+
+/* Zeros of which only the pages that are touched take memory; NULL, and a failed check, where they cannot be mapped. */
+static inline uint8_t *sparse(size_t length)
+{
+    int flags = MAP_PRIVATE | MAP_ANONYMOUS | MAP_NORESERVE;
+    void *bytes = mmap(NULL, length, PROT_READ | PROT_WRITE, flags, -1, 0);
+    expect(bytes != MAP_FAILED, "mapping %zu bytes", length);
+    return bytes == MAP_FAILED ? NULL : bytes;
+}
+
+#endif
