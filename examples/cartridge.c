@@ -1,4 +1,4 @@
-/* cartridge.c: a cartridge file mapped into memory and lent to each service, with every answer in words.
+/* cartridge.c: a cartridge file mapped into memory, and a drive record, lent to each service; every answer in words.
  *
  *   cartridge FILE
  *
@@ -15,7 +15,7 @@
 
 enum { LENGTH = 64, FLAGS = LENGTH - 12 };
 
-/* E's bytes, each run at its place: no service of these three writes an object. */
+/* E's bytes, each run at its place: no service of these writes an object. */
 static const struct {
     const char *what;
     size_t at, length;
@@ -43,42 +43,54 @@ static void print_bytes(const uint8_t *bytes, size_t length)
     printf("\n");
 }
 
-/* What a refusal of these services says. */
+/* ---- the services, each call printed, and its answer put into words */
+
 static const char *refusal_in_words(unsigned refusal)
 {
     switch (refusal) {
     case 0: return "done";
-    case 6: return "refused 6: the image is unsound";
-    case 7: return "refused 7: the length is outside 64 to 1,073,741,824";
+    case 4: return "refused 4: the record is not 30 bytes, or ill-formed";
+    case 5: return "refused 5: a cartridge is loaded already";
+    case 6: return "refused 6: an image is unsound";
+    case 7: return "refused 7: a length is outside 64 to 1,073,741,824";
     default: return "refused by a number that these services do not give";
     }
 }
 
-static void print_answer(uint64_t answer)
+/* Prints an answer, and gives back the number that refuses the call, 0 for none. */
+static unsigned refusal_of(uint64_t answer)
 {
     printf("  %s (status %02xh, %u bytes carried)\n", refusal_in_words(STORMTOGGLE_REFUSAL(answer)),
            STORMTOGGLE_STATUS(answer), (unsigned)STORMTOGGLE_CARRIED(answer));
+    return STORMTOGGLE_REFUSAL(answer);
 }
 
-/* Each call below is printed, made, and its answer put into words. True unless it was refused. */
-
-static int blank(uint8_t *image, size_t length)
+static unsigned blank(uint8_t *image, size_t length)
 {
     printf("stormtoggle_blank, %zu bytes\n", length);
-    uint64_t answer = stormtoggle_blank(image, length);
-    print_answer(answer);
-    return STORMTOGGLE_REFUSAL(answer) == 0;
+    return refusal_of(stormtoggle_blank(image, length));
 }
 
-static int protect(uint8_t *image, size_t length, uint64_t on)
+static unsigned protect(uint8_t *image, size_t length, uint64_t on)
 {
     printf("stormtoggle_protect, %zu bytes, %s\n", length, on != 0 ? "on" : "off");
-    uint64_t answer = stormtoggle_protect(image, length, on);
-    print_answer(answer);
-    return STORMTOGGLE_REFUSAL(answer) == 0;
+    return refusal_of(stormtoggle_protect(image, length, on));
 }
 
-/* The block is read where it lies in the mapped file. */
+static unsigned fresh(uint8_t *record, size_t length)
+{
+    printf("stormtoggle_fresh, a record of %zu bytes\n", length);
+    return refusal_of(stormtoggle_fresh(record, length));
+}
+
+/* A cartridge of one partition: the second slice is empty. */
+static unsigned mount(uint8_t *record, size_t record_length, const uint8_t *image, size_t length)
+{
+    printf("stormtoggle_mount, a record of %zu bytes, partition 0 of %zu, no partition 1\n", record_length, length);
+    return refusal_of(stormtoggle_mount(record, record_length, image, length, NULL, 0));
+}
+
+/* The block is read where it lies in the mapped file. Its length is given back, 0 if there is none. */
 static size_t view(const uint8_t *image, size_t length, uint64_t object)
 {
     printf("stormtoggle_view, partition 0, object %u\n", (unsigned)object);
@@ -92,6 +104,45 @@ static size_t view(const uint8_t *image, size_t length, uint64_t object)
     print_bytes(image + STORMTOGGLE_VIEW_START(found), STORMTOGGLE_VIEW_LENGTH(found));
     return STORMTOGGLE_VIEW_LENGTH(found);
 }
+
+/* ---- the drive record in words */
+
+static uint32_t number_at(const uint8_t *at)
+{
+    return (uint32_t)at[0] << 24 | (uint32_t)at[1] << 16 | (uint32_t)at[2] << 8 | at[3];
+}
+
+static const char *attention_in_words(uint8_t attention)
+{
+    switch (attention) {
+    case 0x00: return "nothing waits";
+    case 0x28: return "28h waits: the cartridge may have been changed";
+    case 0x29: return "29h waits: the drive was reset";
+    default: return "a value that no record has";
+    }
+}
+
+/* Sense key, additional sense code and its qualifier, then all of the kept sense. */
+static void print_sense(const uint8_t *sense)
+{
+    printf("  kept sense    %X/%02X/%02X:", sense[2] & 0x0fu, sense[12], sense[13]);
+    print_bytes(sense, STORMTOGGLE_SENSE_LENGTH);
+}
+
+static void print_record(const uint8_t *record)
+{
+    uint32_t block_length = number_at(record + STORMTOGGLE_RECORD_BLOCK_LENGTH);
+    printf("the record says\n");
+    printf("  loaded        %s\n", record[STORMTOGGLE_RECORD_LOADED] != 0 ? "yes" : "no");
+    printf("  partitions    %u\n", record[STORMTOGGLE_RECORD_PARTITIONS]);
+    printf("  current       %u\n", record[STORMTOGGLE_RECORD_CURRENT]);
+    printf("  attention     %s\n", attention_in_words(record[STORMTOGGLE_RECORD_ATTENTION]));
+    printf("  position      %u\n", (unsigned)number_at(record + STORMTOGGLE_RECORD_POSITION));
+    printf("  block length  %u%s\n", (unsigned)block_length, block_length == 0 ? ", variable" : "");
+    print_sense(record + STORMTOGGLE_RECORD_SENSE);
+}
+
+/* ---- the cartridge file */
 
 static void lay_example_e(uint8_t *image)
 {
@@ -122,19 +173,33 @@ static uint8_t *map_cartridge(const char *name)
     return image;
 }
 
-/* The file's life: blank, filled, protected, read, released. True if each answer is the one to expect. */
+/* ---- the demonstration; each part is true if every answer is the one to expect */
+
+/* The file's life: blank, filled, protected, read, released. */
 static int use(uint8_t *image)
 {
-    int well = blank(image, LENGTH);
+    int well = blank(image, LENGTH) == 0;
     print_flags(image);
     lay_example_e(image);
-    well = protect(image, LENGTH, 1) && well;
+    well = protect(image, LENGTH, 1) == 0 && well;
     print_flags(image);
     well = view(image, LENGTH, 0) == 3 && well;
     well = view(image, LENGTH, 1) == 0 && well;
-    well = protect(image, LENGTH, 0) && well;
+    well = protect(image, LENGTH, 0) == 0 && well;
     print_flags(image);
     return well;
+}
+
+/* A drive from power-on to a loaded cartridge. Its record is all that the daemon keeps of it. */
+static int load(const uint8_t *image)
+{
+    uint8_t record[STORMTOGGLE_RECORD_LENGTH] = {0};
+    int well = fresh(record, sizeof record) == 0;
+    print_record(record);
+    well = mount(record, sizeof record, image, LENGTH) == 0 && well;
+    print_record(record);
+    printf("the same cartridge once more\n");
+    return mount(record, sizeof record, image, LENGTH) == 5 && well;
 }
 
 /* Calls that a daemon must be ready to see refused, on a copy; not one byte of it changes. */
@@ -145,11 +210,24 @@ static int misuse(const uint8_t *image)
     lent[FLAGS] = 0x80;
     memcpy(before, lent, LENGTH);
     printf("a copy, cut to 63 bytes\n");
-    int refused = !blank(lent, LENGTH - 1);
+    int well = blank(lent, LENGTH - 1) == 7;
     printf("a copy, with a flag that is not known\n");
-    refused = !protect(lent, LENGTH, 1) && refused;
-    refused = view(lent, LENGTH, 0) == 0 && refused;
-    return refused && memcmp(lent, before, LENGTH) == 0;
+    well = protect(lent, LENGTH, 1) == 6 && well;
+    well = view(lent, LENGTH, 0) == 0 && well;
+    return well && memcmp(lent, before, LENGTH) == 0;
+}
+
+/* The same copy in another drive, whose record stays as it was. */
+static int misload(const uint8_t *image)
+{
+    uint8_t lent[LENGTH], record[STORMTOGGLE_RECORD_LENGTH] = {0}, before[STORMTOGGLE_RECORD_LENGTH];
+    memcpy(lent, image, LENGTH);
+    lent[FLAGS] = 0x80;
+    printf("another drive, and a copy with a flag that is not known\n");
+    int well = fresh(record, sizeof record) == 0;
+    memcpy(before, record, sizeof record);
+    well = mount(record, sizeof record, lent, LENGTH) == 6 && well;
+    return well && memcmp(record, before, sizeof record) == 0;
 }
 
 int main(int count, char **words)
@@ -160,7 +238,9 @@ int main(int count, char **words)
     }
     uint8_t *image = map_cartridge(words[1]);
     int well = use(image);
+    well = load(image) && well;
     well = misuse(image) && well;
+    well = misload(image) && well;
     if (msync(image, LENGTH, MS_SYNC) != 0 || munmap(image, LENGTH) != 0)
         stop(words[1]);
     if (!well)

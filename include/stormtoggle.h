@@ -24,13 +24,38 @@ extern "C" {
 #define STORMTOGGLE_CARRIED(answer) ((uint32_t)(answer))
 
 /* Bits 32 to 34: the refusal, 0 for none.
- *   6  the image is unsound
- *   7  the image's length is outside 64 to 1,073,741,824
+ *   4  the record is not 30 bytes, or ill-formed
+ *   5  a cartridge is loaded already
+ *   6  an image is unsound
+ *   7  an image's length is outside 64 to 1,073,741,824
  */
 #define STORMTOGGLE_REFUSAL(answer) ((unsigned)((uint64_t)(answer) >> 32 & 7))
 
 /* Bit 35: the SCSI status, 00h or 02h. */
 #define STORMTOGGLE_STATUS(answer) ((unsigned)((uint64_t)(answer) >> 35 & 1) << 1)
+
+/* The drive record: how long it is, and where each field starts. The daemon keeps its bytes between calls and may show
+ * them; only the services write them. Position and block length are big-endian. */
+enum {
+    STORMTOGGLE_RECORD_LENGTH = 30,
+    STORMTOGGLE_RECORD_LOADED = 0,       /* 1 byte: 1 if a cartridge is loaded, else 0 */
+    STORMTOGGLE_RECORD_PARTITIONS = 1,   /* 1 byte: 1 or 2; 0 while unloaded */
+    STORMTOGGLE_RECORD_CURRENT = 2,      /* 1 byte: the current partition, 0 or 1; 0 while unloaded */
+    STORMTOGGLE_RECORD_ATTENTION = 3,    /* 1 byte: what waits to be told, 28h or 29h; 00h if nothing does */
+    STORMTOGGLE_RECORD_POSITION = 4,     /* 4 bytes: the object number; 0 while unloaded */
+    STORMTOGGLE_RECORD_BLOCK_LENGTH = 8, /* 4 bytes: at most 65,536; 0 means variable */
+    STORMTOGGLE_RECORD_SENSE = 12,       /* 18 bytes, any: the kept sense; empty is 70h first, 0Ah in byte 7, else 0 */
+    STORMTOGGLE_SENSE_LENGTH = 18
+};
+
+/* Makes a fresh drive record: attention 29h, the empty sense, every other byte 0. Refusal 4, for its length only. */
+uint64_t stormtoggle_fresh(uint8_t *record, size_t record_len);
+
+/* Mounts a cartridge: one partition if the second slice is empty, else two. The record is then loaded, at partition 0
+ * and position 0, with attention 28h, block length 0 and the empty sense. The partitions are only read.
+ * Refusals 4, then 5, then 7 for either partition, then 6 for either. */
+uint64_t stormtoggle_mount(uint8_t *record, size_t record_len, const uint8_t *p0, size_t p0_len, const uint8_t *p1,
+                           size_t p1_len);
 
 /* Makes a blank partition: N = 0, flags 0, D and L by the length; every other byte stays. Refusal 7. */
 uint64_t stormtoggle_blank(uint8_t *image, size_t image_len);

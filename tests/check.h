@@ -1,4 +1,4 @@
-/* check.h: counted checks, big-endian words and random numbers, shared by the host-side tests. */
+/* check.h: counted checks, answers, big-endian words and random numbers, shared by the host-side tests. */
 #ifndef CHECK_H
 #define CHECK_H
 
@@ -10,6 +10,13 @@
 #include <string.h>
 #include <sys/wait.h>
 #include <unistd.h>
+
+#define COUNT(array) (sizeof(array) / sizeof *(array))
+#define BEYOND_32_BITS (UINT64_C(1) << 32)
+
+/* The whole answer of a house service. */
+#define DONE UINT64_C(0)
+#define REFUSED(number) ((uint64_t)(number) << 32)
 
 static unsigned long checks_passed, checks_failed;
 

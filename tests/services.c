@@ -4,11 +4,6 @@
 #include "lend.h"
 #include "stormtoggle.h"
 
-#define COUNT(array) (sizeof(array) / sizeof *(array))
-#define REFUSED(number) ((uint64_t)(number) << 32)
-#define DONE UINT64_C(0)
-#define BEYOND_32_BITS (UINT64_C(1) << 32)
-
 /* ---- blank */
 
 static void blank_refuses(size_t length)

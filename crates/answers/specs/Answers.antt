@@ -1,11 +1,18 @@
 -- What a call answers (01, "Answers of a call"), and how it packs into one number for C.
 -- Assumes nothing: these are definitions.
 use Prim.Native.Nat.{ℕ, _+_, _*_, _^_}
-use mathlib.Core.Bool.{cond}
+use mathlib.Core.Bool.{Bool, cond}
+use mathlib.Core.List.{List, [], _∷_}
 use lib.Dec.{eqb}
 use Rattle.answers.specs.declared.Answer.{Answer}
 
 -- the refusals of 01's table that stand today, by name
+abbrev pub recordFault : ℕ
+recordFault = 4
+
+abbrev pub alreadyLoaded : ℕ
+alreadyLoaded = 5
+
 abbrev pub unsoundImage : ℕ
 unsoundImage = 6
 
@@ -23,6 +30,19 @@ refused n = record { refusal = n; status = 0; carried = 0 }
 -- a house service done: 0, 0, 0
 abbrev pub done : Answer
 done = record { refusal = 0; status = 0; carried = 0 }
+
+-- the number of the first test that holds, in the order given; 0 for none
+abbrev pub firstOf : List (Bool × ℕ) → ℕ
+firstOf [] = 0
+firstOf (t ∷ ts) = cond (t .0) (t .1) (firstOf ts)
+
+-- all that a service leaves which may alter one lent slice: its answer, and the slice
+pub record Left : Type 0 where
+  pub answer : Answer
+  pub lent : List ℕ
+
+abbrev pub left : Answer → List ℕ → Left
+left a s = record { answer = a; lent = s }
 
 -- bits 0 to 31 the bytes carried, 32 to 34 the refusal, bit 35 set for the status 02h
 unfoldable pub packed : Answer → ℕ

@@ -5,6 +5,10 @@ ghost use Rattle.answers.specs.Answers.{packed, packedPart};
 ghost use Rattle.answers.specs.Answers.{refused as Answers·refused, done as Answers·done};
 
 // The refusals of document 01's table.
+pub const RECORD_FAULT: u8 = 4;
+
+pub const ALREADY_LOADED: u8 = 5;
+
 pub const UNSOUND_IMAGE: u8 = 6;
 
 pub const WRONG_LENGTH: u8 = 7;

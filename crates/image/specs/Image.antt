@@ -7,7 +7,7 @@ use lib.ListN.{length}
 use lib.Seq.{slice}
 use lib.Dec.{leb, ltb, eqb}
 use Rattle.words.specs.Words.{be}
-use Rattle.objects.specs.Object.{Object, filemark, block}
+use Rattle.objects.specs.Object.{Object, filemark, block, largestBlock}
 
 -- ---- the numbers of 01, each once
 
@@ -25,10 +25,6 @@ trailerLength = 16
 -- "The entry of object i is the four bytes at ..": an object needs them beside its data
 abbrev pub entryLength : ℕ
 entryLength = 4
-
--- "by 1 to 65,536": the largest block
-abbrev pub largestBlock : ℕ
-largestBlock = 65536
 
 -- "bit 0 = protected, others 0": how many flag bits have a meaning
 abbrev pub flagBits : ℕ

@@ -5,19 +5,10 @@ use mathlib.Core.Bool.{Bool, cond, not, _&&_}
 use mathlib.Core.List.{List}
 use lib.Dec.{eqb, ltb}
 use lib.Seq.{slice}
-use Rattle.answers.specs.declared.Answer.{Answer}
-use Rattle.answers.specs.Answers.{refused, done, unsoundImage, wrongLength}
+use Rattle.answers.specs.Answers.{Left, left, refused, done, unsoundImage, wrongLength}
 use Rattle.image.specs.declared.part.Part.{Part}
 use Rattle.image.specs.Image.{rightLength, sound, count, entry, topBit, endAt}
 use Rattle.image.specs.Changes.{blank, protect}
-
--- all that a service on one image leaves: its answer and the image
-pub record Left : Type 0 where
-  pub answer : Answer
-  pub image : List ℕ
-
-abbrev pub left : Answer → List ℕ → Left
-left a s = record { answer = a; image = s }
 
 -- blank: 7, else done
 unfoldable pub blankCall : List ℕ → Left

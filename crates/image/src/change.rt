@@ -6,7 +6,7 @@ ghost use lib.ListN.{length};
 ghost use Rattle.objects.specs.Object.{filemark, block};
 ghost use Rattle.objects.specs.Events.{put};
 ghost use Rattle.objects.specs.Events.{cut as Events·cut};
-ghost use Rattle.image.specs.Image.{leastLength, mostLength, trailerLength, entryLength, largestBlock, count, sound, fits};
+ghost use Rattle.image.specs.Image.{leastLength, mostLength, trailerLength, entryLength, count, sound, fits};
 ghost use Rattle.image.specs.Changes.{retitle as Changes·retitle, occur, cleared, protect, blank};
 use crate::entries::ENTRY;
 use crate::entries::TRAILER;

@@ -18,9 +18,6 @@ const LEAST_LENGTH: usize = 64;
 
 const MOST_LENGTH: usize = 1_073_741_824;
 
-// The largest block.
-pub const LARGEST_BLOCK: u32 = 65_536;
-
 // How many flag bits have a meaning.
 const FLAG_BITS: u32 = 1;
 
@@ -35,7 +32,7 @@ fn entry_follows(p: u32, e: u32) -> bool
     if end <= p {
         return false;
     }
-    end - p <= LARGEST_BLOCK
+    end - p <= objects::LARGEST_BLOCK
 }
 
 // Whether the entries of the first n objects are right. There is no way out of the loop but its end, so that it is

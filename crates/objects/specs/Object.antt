@@ -5,6 +5,10 @@ use mathlib.Core.Bool.{Bool, true, false}
 use mathlib.Core.List.{List, [], _∷_}
 use lib.ListN.{length}
 
+-- a block has 1 to 65,536 bytes
+abbrev pub largestBlock : ℕ
+largestBlock = 65536
+
 pub data Object : Type 0 where
   filemark : Object
   block : List ℕ → Object

@@ -1,2 +1,5 @@
 // What a partition holds, how SPACE moves over it, and what puts and cuts make of it: definitions (specs/) and their laws
-// (proofs/). No code: the crates above prove theirs against these.
+// (proofs/). The crates above prove their code against these.
+
+// The largest block.
+pub const LARGEST_BLOCK: u32 = 65_536;

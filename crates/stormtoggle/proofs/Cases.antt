@@ -3,14 +3,18 @@
 use Prim.Native.Nat.{ℕ}
 use mathlib.Core.Bool.{Bool, true, false, not}
 use mathlib.Core.Path.{_≡_, refl, ap, _∙_}
+use lib.ListN.{length}
 use mathlib.Core.List.{List}
 use borrow.Author.Tests.{eq-eqb, ne-eqb, not-true, not-false}
 use Rattle.answers.specs.declared.Answer.{Answer}
-use Rattle.answers.specs.Answers.{refused, done, wrongLength, packed}
+use Rattle.answers.specs.Answers.{recordFault, Left, left, refused, done, wrongLength, packed}
 use Rattle.image.specs.declared.part.Part.{Part}
 use Rattle.image.specs.Image.{rightLength}
 use Rattle.image.specs.Changes.{blank, protect}
-use Rattle.image.specs.Services.{Left, left, blankCall, faultOf, protectCall, emptyPart, partOf, shown, placed, viewOf}
+use Rattle.image.specs.Services.{blankCall, faultOf, protectCall, emptyPart, partOf, shown, placed, viewOf}
+use Rattle.record.specs.declared.drive.Drive.{Drive}
+use Rattle.record.specs.Record.{recordLength, encodeOf, freshDrive, mountedDrive}
+use Rattle.cartridge.specs.Mount.{partitionsOf, freshCall, mountFault, mountCall}
 use Rattle.stormtoggle.specs.Calls.{numbered}
 use Rattle.stormtoggle.specs.Views.{chosen, chosenPlace}
 
@@ -35,6 +39,26 @@ module _ (on : Bool) (s : List ℕ) (f : ℕ) (ef : f ≡ faultOf s) (a : Answer
   pub protect-done : f ≡ 0 → (t : List ℕ) → t ≡ protect on s → a ≡ done → left a t ≡ protectCall on s
   unfolding protectCall
   protect-done h t et e = rw (← ef, eq-eqb f 0 h, e, et) refl
+
+-- ---- fresh and mount
+
+module _ (rec : List ℕ) (a : Answer) where
+  pub fresh-refused : (length rec ≡ recordLength → ⊥) → a ≡ refused recordFault → left a rec ≡ freshCall rec
+  unfolding freshCall
+  fresh-refused h e = rw (ne-eqb (length rec) recordLength h, e) refl
+
+  pub fresh-done : length rec ≡ recordLength → (t : List ℕ) (d : Drive) → d ≡ freshDrive → t ≡ encodeOf d → a ≡ done → left a t ≡ freshCall rec
+  unfolding freshCall
+  fresh-done h t d ed et e = rw (eq-eqb (length rec) recordLength h, e, et, ed) refl
+
+module _ (rec p0 p1 : List ℕ) (f : ℕ) (ef : f ≡ mountFault rec p0 p1) (a : Answer) where
+  pub mount-refused : (f ≡ 0 → ⊥) → a ≡ refused f → left a rec ≡ mountCall rec p0 p1
+  unfolding mountCall
+  mount-refused h e = rw (← ef, ne-eqb f 0 h, e) refl
+
+  pub mount-served : f ≡ 0 → (t : List ℕ) (d : Drive) (n : ℕ) → n ≡ partitionsOf p1 → d ≡ mountedDrive n → t ≡ encodeOf d → a ≡ done → left a t ≡ mountCall rec p0 p1
+  unfolding mountCall
+  mount-served h t d n en ed et e = rw (← ef, eq-eqb f 0 h, e, et, ed, en) refl
 
 -- ---- for C: the answer packed
 

@@ -2,12 +2,12 @@
 -- Assumes nothing: these are definitions.
 use Prim.Native.Nat.{ℕ}
 use mathlib.Core.List.{List}
-use Rattle.answers.specs.Answers.{packed, packedPart}
-use Rattle.image.specs.Services.{Left, viewOf}
+use Rattle.answers.specs.Answers.{Left, packed, packedPart}
+use Rattle.image.specs.Services.{viewOf}
 
--- a service on one image: the number returned, and the image
+-- a service that may alter one slice: the number returned, and the slice
 abbrev pub numbered : Left → ℕ × List ℕ
-numbered o = (packed (o .answer), o .image)
+numbered o = (packed (o .answer), o .lent)
 
 -- the view: start and length of the part, 0 if empty
 abbrev pub viewNumber : List ℕ → List ℕ → ℕ → ℕ → ℕ

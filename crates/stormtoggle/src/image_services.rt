@@ -2,7 +2,8 @@
 ghost use mathlib.Core.Path.{_≡_};
 ghost use mathlib.Core.Bool.{not};
 ghost use lib.Dec.{eqb};
-ghost use Rattle.image.specs.Services.{left, blankCall, protectCall};
+ghost use Rattle.answers.specs.Answers.{left};
+ghost use Rattle.image.specs.Services.{blankCall, protectCall};
 ghost use Rattle.stormtoggle.specs.Calls.{numbered};
 use answers::Answer;
 

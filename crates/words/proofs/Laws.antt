@@ -4,12 +4,13 @@
 use mathlib.Core.Path.{_≡_, refl, sym, ap, ap₂, _∙_}
 use mathlib.Core.Logic.{_⊎_, inl, inr}
 use mathlib.Core.List.{List, [], _∷_, _++_, append-assoc, append-nil}
-use Prim.Native.Nat.{ℕ, zero, suc, _+_, _-_, _*_, _/_, _%_, _^_, _<_, _≤_}
+use Prim.Native.Nat.{ℕ, zero, suc, _+_, _-_, _*_, _/_, _%_, _^_, _<_, _≤_, min}
 use native.Mathlib.Nat.{zero-add, add-zero, suc-add, add-suc, div-add-mod', div-div-eq-div-mul, div-lt-iff-lt-mul, mul-add-div-right, mul-add-mod-self-right, mul-assoc, pow-suc, pow-succ'}
 use native.Mathlib.Omega.{arith}
+use native.Mathlib.Decide.{decLe}
 use lib.Dec.{lit<}
-use lib.ListN.{length, getD, take, drop, length-append, length-take, length-drop, List·getD-append, take-append-drop}
-use lib.Seq.{slice, slice-empty, length-slice, take-suc, drop-append-le, take-nil, getD-take, getD-drop, getD-append-add, getD-at, length-take-le, take-append-le, take-take, take-at, drop-at, drop-drop}
+use lib.ListN.{length, getD, take, drop, length-append, length-take, length-drop, List·getD-append, take-append-drop, drop-of-length-le}
+use lib.Seq.{slice, take-all, slice-empty, drop-cons, length-slice, take-suc, drop-append-le, take-nil, getD-take, getD-drop, getD-append-add, getD-at, length-take-le, take-append-le, take-take, take-at, drop-at, drop-drop}
 use Rattle.words.specs.Words.{be, bytes, over}
 
 -- ---- lengths
@@ -186,6 +187,13 @@ over-over s at a b h =
     ap₂ (λ (x y : List ℕ). x ++ b ++ y) front back
     ∙ ap₂ (λ (x : List ℕ) (n : ℕ). x ++ drop n s) (append-assoc (take at s) a b) len
 
+-- a run as long as s is all that is left
+pub over-all : (s b : List ℕ) → length b ≡ length s → over s 0 b ≡ b
+unfolding over
+over-all s b h =
+    let rest : drop (0 + length b) s ≡ [] = drop-of-length-le s {i = 0 + length b} (omega arith) in
+    ap (λ (l : List ℕ). b ++ l) rest ∙ append-nil b
+
 pub over-nil : (s : List ℕ) (at : ℕ) → over s at [] ≡ s
 unfolding over
 over-nil s at = rw (append-nil, add-zero) (take-append-drop at s)
@@ -217,6 +225,33 @@ over-slice s at n h =
 
 pub put-same : (n : ℕ) (s : List ℕ) (at : ℕ) → ((j : ℕ) → getD s j 0 < 256) → at + n ≤ length s → over s at (bytes n (be n s at)) ≡ s
 put-same n s at byte h = ap (over s at) (bytes-be n s at byte h) ∙ over-slice s at n h
+
+-- ---- a list of n bytes, written out
+
+abbrev pub firsts : ℕ → ℕ → List ℕ → List ℕ
+firsts zero i s = []
+firsts (suc n) i s = getD s i 0 ∷ firsts n (suc i) s
+
+pub firsts-eq : (n i : ℕ) (s : List ℕ) → n + i ≤ length s → drop i s ≡ firsts n i s ++ drop (n + i) s
+firsts-eq zero i s h = ap (λ (k : ℕ). drop k s) (sym (zero-add i))
+firsts-eq (suc n) i s h =
+    let e : suc n + i ≡ n + suc i = suc-add n i ∙ sym (add-suc n i) in
+    let k : n + suc i ≤ length s = omega arith in
+    let m : i < length s = omega arith in
+    drop-cons s i 0 m ∙ ap (λ (l : List ℕ). getD s i 0 ∷ l) (firsts-eq n (suc i) s k ∙ ap (λ (j : ℕ). firsts n (suc i) s ++ drop j s) (sym e))
+
+pub written-out : (n : ℕ) (s : List ℕ) → length s ≡ n → s ≡ firsts n 0 s
+written-out n s h =
+    let rest : drop (n + 0) s ≡ [] = drop-of-length-le s {i = n + 0} (omega arith) in
+    firsts-eq n 0 s (omega arith) ∙ ap (λ (l : List ℕ). firsts n 0 s ++ l) rest ∙ append-nil (firsts n 0 s)
+
+-- a list cut at the smaller of a number and its length is cut at that number
+pub cut-at-smaller : (a n : ℕ) (s : List ℕ) → n ≡ min a (length s) → take n s ≡ take a s
+cut-at-smaller a n s e = by (decLe a (length s))
+  where
+    by : Dec (a ≤ length s) → take n s ≡ take a s
+    by (yes h) = let z : n ≡ a = omega arith in ap (λ (k : ℕ). take k s) z
+    by (no h) = take-all n s (omega arith) ∙ sym (take-all a s (omega arith))
 
 -- a part of a slice, as the code takes it, is `slice`
 part-slice : (a k : ℕ) (s : List ℕ) → take k (drop a s) ≡ drop a (take (a + k) s)

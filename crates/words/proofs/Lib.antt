@@ -1,3 +1,4 @@
 pub mod Laws
 pub mod Stores
 pub mod Wraps
+pub mod Flags

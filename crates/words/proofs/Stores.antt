@@ -83,6 +83,22 @@ quotient2 v = sym (div-div-eq-div-mul v 256 256)
 quotient3 : (v : ℕ) → v / 16777216 ≡ v / 256 / 256 / 256
 quotient3 v = sym (div-div-eq-div-mul v 65536 256) ∙ ap (λ (q : ℕ). q / 256) (quotient2 v)
 
+-- the four bytes of a number, by one division each
+pub four-bytes : (v : ℕ) → bytes 4 v ≡ v / 16777216 % 256 ∷ v / 65536 % 256 ∷ v / 256 % 256 ∷ v % 256 ∷ []
+unfolding bytes
+four-bytes v = rw (quotient3 v, quotient2 v) refl
+
+-- four bytes read as a number and written again
+pub four-back : (s : List ℕ) (at : ℕ) → getD s at 0 < 256 → getD s (at + 1) 0 < 256 → getD s (at + 2) 0 < 256 → getD s (at + 3) 0 < 256
+    → bytes 4 (be 4 s at) ≡ getD s at 0 ∷ getD s (at + 1) 0 ∷ getD s (at + 2) 0 ∷ getD s (at + 3) 0 ∷ []
+four-back s at ha hb hc hd =
+    let n : ℕ = getD s at 0 * 16777216 + getD s (at + 1) 0 * 65536 + getD s (at + 2) 0 * 256 + getD s (at + 3) 0 in
+    let a : n / 16777216 % 256 ≡ getD s at 0 = omega arith in
+    let b : n / 65536 % 256 ≡ getD s (at + 1) 0 = omega arith in
+    let c : n / 256 % 256 ≡ getD s (at + 2) 0 = omega arith in
+    let d : n % 256 ≡ getD s (at + 3) 0 = omega arith in
+    four-bytes (be 4 s at) ∙ rw (spelt4 s at) (λ i. a i ∷ b i ∷ c i ∷ d i ∷ [])
+
 pub stored2 : (s : List ℕ) (at v : ℕ) → at + 2 ≤ length s → set (set s at (v / 256 % 256)) (at + 1) (v % 256) ≡ over s at (bytes 2 v)
 unfolding over bytes
 stored2 s at v h =

@@ -20,3 +20,7 @@ over s at b = take at s ++ b ++ drop (at + length b) s
 
 abbrev pub zeros : ℕ → List ℕ
 zeros n = replicate n 0
+
+-- "Allocation-limited data is the smaller of allocation and data"
+abbrev pub limited : ℕ → List ℕ → List ℕ
+limited allocation b = take allocation b

@@ -10,6 +10,7 @@ pub use read::be32_at;
 pub use read::be64_at;
 pub use run::clear_at;
 pub use run::copy_at;
+pub use run::copy_limited;
 pub use signed::difference;
 pub use signed::signed24;
 pub use signed::signed64;

@@ -1,0 +1,100 @@
+-- The lengths of command blocks, the commands served and the masks of their bytes (01, "Command lengths and masks").
+-- Assumes nothing: these are definitions.
+use mathlib.Core.Bool.{Bool, true, cond, _&&_, _||_}
+use mathlib.Core.List.{List, [], _∷_}
+use Prim.Native.Nat.{ℕ, zero, suc, _-_}
+use lib.Bits.{bitAnd}
+use lib.Dec.{eqb, ltb}
+use lib.ListN.{length, getD}
+use Rattle.codes.specs.declared.operation.Operation.{Operation}
+use Rattle.codes.specs.declared.operation.Operation.the-variants.{TestUnitReady, Rewind, RequestSense, ReadBlockLimits, Read, Write, WriteFilemarks, Space, ModeSelect, Erase, ModeSense, LoadUnload, Locate, ReadPosition, NotServed}
+
+-- 00–1F 6, 20–5F 10, 80–9F 16, A0–BF 12, others 0
+abbrev pub lengthOf : ℕ → ℕ
+lengthOf op = cond (ltb op 0x20) 6 (cond (ltb op 0x60) 10 (cond (ltb op 0x80) 0 (cond (ltb op 0xA0) 16 (cond (ltb op 0xC0) 12 0))))
+
+-- the operation code of a command block
+abbrev pub codeOf : List ℕ → ℕ
+codeOf cmd = getD cmd 0 0
+
+-- "command block empty, or shorter than its length in the table"; where that is 0, one byte is enough
+unfoldable pub tooShort : List ℕ → Bool
+tooShort cmd = eqb (length cmd) 0 || ltb (length cmd) (lengthOf (codeOf cmd))
+
+-- ---- the commands served
+
+-- an operation code, its command, and the masks of the bytes from byte 1 on: byte:bits, others 00
+pub record Row : Type 0 where
+  pub code : ℕ
+  pub operation : Operation
+  pub masks : List ℕ
+
+abbrev pub row : ℕ → Operation → List ℕ → Row
+row c o m = record { code = c; operation = o; masks = m }
+
+-- one line a command, as 01 writes them
+abbrev pub rows : List Row
+rows =
+    -- 00 TEST UNIT READY none
+    row 0x00 TestUnitReady [] ∷
+    -- 01 REWIND 1:01
+    row 0x01 Rewind (0x01 ∷ []) ∷
+    -- 03 REQUEST SENSE 4:FF
+    row 0x03 RequestSense (0x00 ∷ 0x00 ∷ 0x00 ∷ 0xFF ∷ []) ∷
+    -- 05 READ BLOCK LIMITS none
+    row 0x05 ReadBlockLimits [] ∷
+    -- 08 READ 1:03 2–4:FF
+    row 0x08 Read (0x03 ∷ 0xFF ∷ 0xFF ∷ 0xFF ∷ []) ∷
+    -- 0A WRITE 1:01 2–4:FF
+    row 0x0A Write (0x01 ∷ 0xFF ∷ 0xFF ∷ 0xFF ∷ []) ∷
+    -- 10 WRITE FILEMARKS 2–4:FF
+    row 0x10 WriteFilemarks (0x00 ∷ 0xFF ∷ 0xFF ∷ 0xFF ∷ []) ∷
+    -- 11 SPACE 1:0F 2–4:FF
+    row 0x11 Space (0x0F ∷ 0xFF ∷ 0xFF ∷ 0xFF ∷ []) ∷
+    -- 15 MODE SELECT 1:10 4:FF
+    row 0x15 ModeSelect (0x10 ∷ 0x00 ∷ 0x00 ∷ 0xFF ∷ []) ∷
+    -- 19 ERASE 1:03
+    row 0x19 Erase (0x03 ∷ []) ∷
+    -- 1A MODE SENSE 1:08 2:3F 4:FF
+    row 0x1A ModeSense (0x08 ∷ 0x3F ∷ 0x00 ∷ 0xFF ∷ []) ∷
+    -- 1B LOAD UNLOAD 1:01 4:01
+    row 0x1B LoadUnload (0x01 ∷ 0x00 ∷ 0x00 ∷ 0x01 ∷ []) ∷
+    -- 2B LOCATE 1:03 3–6:FF 8:FF
+    row 0x2B Locate (0x03 ∷ 0x00 ∷ 0xFF ∷ 0xFF ∷ 0xFF ∷ 0xFF ∷ 0x00 ∷ 0xFF ∷ []) ∷
+    -- 34 READ POSITION 1:1F
+    row 0x34 ReadPosition (0x1F ∷ []) ∷
+    []
+
+-- an operation code that is not served
+abbrev pub noRow : Row
+noRow = row 0x00 NotServed []
+
+-- where an operation code stands in the rows, counted from i; past their end where it does not
+abbrev pub placeIn : List Row → ℕ → ℕ → ℕ
+placeIn [] op i = i
+placeIn (r ∷ rs) op i = cond (eqb (r .code) op) i (placeIn rs op (suc i))
+
+abbrev pub rowOf : ℕ → ℕ
+rowOf op = placeIn rows op 0
+
+abbrev pub operationAt : ℕ → Operation
+operationAt r = getD rows r noRow .operation
+
+-- the command of an operation code
+abbrev pub operationOf : ℕ → Operation
+operationOf op = operationAt (rowOf op)
+
+-- the mask of byte k + 1 in row r
+abbrev pub maskAt : ℕ → ℕ → ℕ
+maskAt r k = getD (getD rows r noRow .masks) k 0
+
+-- ---- "A bit outside its mask is a field error"
+
+-- every bit of the n bytes from byte 1 on lies within its mask
+unfoldable pub inMasks : ℕ → List ℕ → ℕ → Bool
+inMasks r cmd zero = true
+inMasks r cmd (suc k) = inMasks r cmd k && eqb (bitAnd (getD cmd (suc k) 0) (maskAt r k)) (getD cmd (suc k) 0)
+
+-- the same for a command block of its length; extra bytes are ignored
+unfoldable pub masksHold : List ℕ → Bool
+masksHold cmd = inMasks (rowOf (codeOf cmd)) cmd (lengthOf (codeOf cmd) - 1)

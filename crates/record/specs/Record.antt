@@ -1,0 +1,95 @@
+-- The drive record (01, "Drive record"): its thirty bytes as a drive and back, when it is well formed, and what fresh, mount, LOAD and
+-- unload make of it.
+-- Assumes nothing: these are definitions.
+use mathlib.Core.Bool.{Bool, cond, _&&_, _||_}
+use mathlib.Core.List.{List, [], _∷_, _++_}
+use Prim.Native.Nat.{ℕ}
+use lib.Dec.{eqb, leb, ltb}
+use lib.ListN.{length, getD, take, drop}
+use Rattle.words.specs.Words.{be, bytes}
+use Rattle.objects.specs.Object.{largestBlock}
+use Rattle.sense.specs.Sense.{senseLength, emptySense}
+use Rattle.record.specs.declared.drive.Drive.{Drive}
+
+-- ---- the numbers of 01, each once
+
+-- "30 bytes"
+abbrev pub recordLength : ℕ
+recordLength = 30
+
+-- "pending attention (00h, 28h, 29h)": none, the medium may have changed, power on or reset
+abbrev pub noAttention : ℕ
+noAttention = 0x00
+
+abbrev pub mediumChanged : ℕ
+mediumChanged = 0x28
+
+abbrev pub powerOn : ℕ
+powerOn = 0x29
+
+-- "block length 0": what a mount sets
+abbrev pub mountedBlockLength : ℕ
+mountedBlockLength = 0
+
+-- ---- thirty bytes as a drive, and back
+
+-- loaded; partitions; current partition; pending attention; position (4); block length (4); kept sense (18)
+unfoldable pub decodeOf : List ℕ → Drive
+decodeOf s = record {
+  loaded = getD s 0 0;
+  partitions = getD s 1 0;
+  current = getD s 2 0;
+  attention = getD s 3 0;
+  position = be 4 s 4;
+  «block_length» = be 4 s 8;
+  sense = take senseLength (drop 12 s);
+}
+
+unfoldable pub encodeOf : Drive → List ℕ
+encodeOf d = (d .loaded ∷ d .partitions ∷ d .current ∷ d .attention ∷ []) ++ bytes 4 (d .position) ++ bytes 4 (d .«block_length») ++ d .sense
+
+-- ---- well formed, the record alone
+
+unfoldable pub attentionKnown : ℕ → Bool
+attentionKnown a = eqb a noAttention || eqb a mediumChanged || eqb a powerOn
+
+-- "Unloaded: partitions, current and position are 0."
+unfoldable pub emptyHanded : Drive → Bool
+emptyHanded d = eqb (d .partitions) 0 && eqb (d .current) 0 && eqb (d .position) 0
+
+-- "Loaded: 1 or 2 partitions, current below that": the position against N is for the partition to say
+unfoldable pub placed : Drive → Bool
+placed d = leb 1 (d .partitions) && leb (d .partitions) 2 && ltb (d .current) (d .partitions)
+
+-- "loaded 0/1"; "Block length at most 65,536"; "Any kept sense is well formed."
+unfoldable pub wellFormed : Drive → Bool
+wellFormed d =
+    attentionKnown (d .attention)
+    && leb (d .«block_length») largestBlock
+    && cond (eqb (d .loaded) 0) (emptyHanded d) (eqb (d .loaded) 1 && placed d)
+
+-- a record of thirty bytes that is well formed
+unfoldable pub wellRecord : List ℕ → Bool
+wellRecord s = eqb (length s) recordLength && wellFormed (decodeOf s)
+
+-- ---- what the services and LOAD UNLOAD set
+
+-- "Fresh: all 0, attention 29h, sense empty"
+unfoldable pub freshDrive : Drive
+freshDrive = record { loaded = 0; partitions = 0; current = 0; attention = powerOn; position = 0; «block_length» = 0; sense = emptySense }
+
+-- "Mount sets loaded, 1 or 2 partitions, partition 0, position 0, block length 0, attention 28h, empty sense."
+unfoldable pub mountedDrive : ℕ → Drive
+mountedDrive n = record { loaded = 1; partitions = n; current = 0; attention = mediumChanged; position = 0; «block_length» = mountedBlockLength; sense = emptySense }
+
+-- "LOAD: partition 0, position 0."
+unfoldable pub loadedAnew : Drive → Drive
+loadedAnew d = record { loaded = d .loaded; partitions = d .partitions; current = 0; attention = d .attention; position = 0; «block_length» = d .«block_length»; sense = d .sense }
+
+-- "LOAD bit 0: unloaded, block length stays."
+unfoldable pub unloaded : Drive → Drive
+unloaded d = record { loaded = 0; partitions = 0; current = 0; attention = d .attention; position = 0; «block_length» = d .«block_length»; sense = d .sense }
+
+-- the kept sense replaced whole
+unfoldable pub withSense : Drive → List ℕ → Drive
+withSense d s = record { loaded = d .loaded; partitions = d .partitions; current = d .current; attention = d .attention; position = d .position; «block_length» = d .«block_length»; sense = s }

@@ -1,0 +1,29 @@
+-- The senses that 01 writes out, computed from the definitions.
+-- Assumes nothing.
+use mathlib.Core.Bool.{true, false}
+use mathlib.Core.Path.{_≡_, refl}
+use mathlib.Core.List.{[], _∷_}
+use lib.IntN.{pos, negsuc}
+use Rattle.words.specs.Words.{bytes}
+use Rattle.words.specs.Signed.{wrapped}
+use Rattle.sense.specs.Sense.{noSense, blankCheck, illegalRequest, senseBytes, reports, told, plainly, emptySense, attentionSense}
+
+-- 70h first, 0Ah in byte 7, else 0
+empty-is : emptySense ≡ 0x70 ∷ 0 ∷ 0 ∷ 0 ∷ 0 ∷ 0 ∷ 0 ∷ 0x0A ∷ 0 ∷ 0 ∷ 0 ∷ 0 ∷ 0 ∷ 0 ∷ 0 ∷ 0 ∷ 0 ∷ 0 ∷ []
+unfolding emptySense senseBytes reports told bytes
+empty-is = refl
+
+-- 6/28/00
+attention-is : attentionSense 0x28 ≡ 0x70 ∷ 0 ∷ 0x06 ∷ 0 ∷ 0 ∷ 0 ∷ 0 ∷ 0x0A ∷ 0 ∷ 0 ∷ 0 ∷ 0 ∷ 0x28 ∷ 0 ∷ 0 ∷ 0 ∷ 0 ∷ 0 ∷ []
+unfolding attentionSense senseBytes reports told bytes
+attention-is = refl
+
+-- P10: F0 00 80 FF FF FF FB 0A, byte 13 01
+marked-is : senseBytes (told true true false false noSense 0x00 0x01 (negsuc 4)) ≡ 0xF0 ∷ 0 ∷ 0x80 ∷ 0xFF ∷ 0xFF ∷ 0xFF ∷ 0xFB ∷ 0x0A ∷ 0 ∷ 0 ∷ 0 ∷ 0 ∷ 0 ∷ 0x01 ∷ 0 ∷ 0 ∷ 0 ∷ 0 ∷ []
+unfolding senseBytes reports told bytes wrapped
+marked-is = refl
+
+-- key 5 reports no residue, nor does a command that counts nothing
+field-is : (senseBytes (told true false false false illegalRequest 0x24 0x00 (pos 7)) ≡ senseBytes (plainly illegalRequest 0x24 0x00)) × (reports false blankCheck ≡ false)
+unfolding senseBytes reports told bytes
+field-is = (refl, refl)

@@ -1,0 +1,3 @@
+pub mod Packing
+pub mod RoundTrip
+pub mod Known

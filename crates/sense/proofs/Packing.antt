@@ -1,0 +1,110 @@
+-- How the code's masks and shifts make the sense bytes of the definitions, and take them apart.
+-- Assumes nothing.
+use mathlib.Core.Path.{_≡_, refl}
+use mathlib.Core.Bool.{Bool, true, false, cond, not}
+use mathlib.Core.List.{List, [], _∷_}
+use Prim.Native.Nat.{ℕ, _+_, _*_, _/_, _%_, _<_}
+use native.Mathlib.Omega.{arith}
+use borrow.Author.Tests.{eq-eqb, ne-eqb, not-true, not-false}
+use lib.Bits.{bitAnd, bitOr, or-shifted, and-mask}
+use lib.Dec.{eqb}
+use lib.IntN.{ℤ, subℕ, _-ℤ_}
+use lib.ListN.{getD}
+use mir.Val.{boolByte}
+use Rattle.words.specs.Words.{be}
+use Rattle.words.specs.Signed.{wrapped}
+use Rattle.words.proofs.Stores.{low8, four-bytes}
+use Rattle.words.proofs.Flags.{flag}
+use Rattle.words.proofs.Wraps.{wrapped-sub}
+use Rattle.sense.specs.declared.Sense.{Sense}
+use Rattle.sense.specs.Sense.{noSense, blankCheck, volumeOverflow, byte0, byte2, senseBytes, partsOf, reports, told}
+
+-- VALID stands above bits that it does not meet
+pub with-valid : (v : Bool) → bitOr (boolByte v * 128 % 256) 0x70 ≡ cond v 0xF0 0x70
+with-valid true = refl
+with-valid false = refl
+
+low4 : (n : ℕ) → bitAnd n 15 ≡ n % 16
+low4 n = and-mask n 4
+
+-- each flag is 0 or its bit, and the key stands below bit 5
+joined : (f e i : Bool) (k : ℕ) → k < 32 → bitOr (bitOr (bitOr (boolByte f * 128 % 256) (boolByte e * 64 % 256)) (boolByte i * 32 % 256)) k ≡ cond f 0x80 0 + cond e 0x40 0 + cond i 0x20 0 + k
+joined true true true k h = or-shifted 7 5 k h
+joined true true false k h = or-shifted 6 5 k h
+joined true false true k h = or-shifted 5 5 k h
+joined true false false k h = or-shifted 4 5 k h
+joined false true true k h = or-shifted 3 5 k h
+joined false true false k h = or-shifted 2 5 k h
+joined false false true k h = or-shifted 1 5 k h
+joined false false false k h = or-shifted 0 5 k h
+
+pub with-flags : (f e i : Bool) (k : ℕ) → bitOr (bitOr (bitOr (boolByte f * 128 % 256) (boolByte e * 64 % 256)) (boolByte i * 32 % 256)) (bitAnd k 15) ≡ cond f 0x80 0 + cond e 0x40 0 + cond i 0x20 0 + k % 16
+with-flags f e i k = rw (low4 k) (joined f e i (k % 16) (omega arith))
+
+-- the eighteen bytes written out are the definition's
+pub written : (s : Sense) (a b : ℕ) → a ≡ byte0 s → b ≡ byte2 s
+    → (a ∷ 0 ∷ b ∷ bitAnd (s .information / 16777216) 255 ∷ bitAnd (s .information / 65536) 255 ∷ bitAnd (s .information / 256) 255 ∷ bitAnd (s .information) 255
+    ∷ 0x0A ∷ 0 ∷ 0 ∷ 0 ∷ 0 ∷ s .asc ∷ s .ascq ∷ 0 ∷ 0 ∷ 0 ∷ 0 ∷ []) ≡ senseBytes s
+unfolding senseBytes
+written s a b ea eb = rw (four-bytes (s .information), low8, low8, low8, low8, ea, eb) refl
+
+-- what the code takes apart is the definition's
+pub apart : (b : List ℕ) (n : ℕ) → n ≡ be 4 b 3
+    → _≡_ {A = Sense} (record {
+      valid = eqb (getD b 0 0 / 128) 1;
+      filemark = not (eqb (bitAnd (getD b 2 0) 128) 0);
+      eom = not (eqb (bitAnd (getD b 2 0) 64) 0);
+      ili = not (eqb (bitAnd (getD b 2 0) 32) 0);
+      key = bitAnd (getD b 2 0) 15;
+      information = n;
+      asc = getD b 12 0;
+      ascq = getD b 13 0;
+    }) (partsOf b)
+unfolding partsOf
+apart b n e = λ i. record {
+  valid = eqb (getD b 0 0 / 128) 1;
+  filemark = flag (getD b 2 0) 7 i;
+  eom = flag (getD b 2 0) 6 i;
+  ili = flag (getD b 2 0) 5 i;
+  key = low4 (getD b 2 0) i;
+  information = e i;
+  asc = getD b 12 0;
+  ascq = getD b 13 0;
+}
+
+-- ---- when VALID is set, test by test
+
+module _ (counts : Bool) (key : ℕ) where
+  pub not-counted : not counts ≡ true → false ≡ reports counts key
+  unfolding reports
+  not-counted h = rw (not-true counts h) refl
+
+  module _ (h : not counts ≡ false) where
+    pub by-none : key ≡ noSense → true ≡ reports counts key
+    unfolding reports
+    by-none e = rw (not-false counts h, eq-eqb key noSense e) refl
+
+    module _ (n : key ≡ noSense → ⊥) where
+      pub by-blank : key ≡ blankCheck → true ≡ reports counts key
+      unfolding reports
+      by-blank e = rw (not-false counts h, ne-eqb key noSense n, eq-eqb key blankCheck e) refl
+
+      pub by-overflow : (key ≡ blankCheck → ⊥) → eqb key volumeOverflow ≡ reports counts key
+      unfolding reports
+      by-overflow m = rw (not-false counts h, ne-eqb key noSense n, ne-eqb key blankCheck m) refl
+
+-- the information is the residue where VALID is set, else 0
+module _ (counts f e i : Bool) (key asc ascq : ℕ) (z : ℤ) (v : Bool) (ev : v ≡ reports counts key) (n : ℕ) where
+  pub told-valid : v ≡ true → n ≡ wrapped z → _≡_ {A = Sense} (record { valid = v; filemark = f; eom = e; ili = i; key = key; information = n; asc = asc; ascq = ascq }) (told counts f e i key asc ascq z)
+  unfolding told
+  told-valid h en = rw (← ev, h, en) refl
+
+  pub told-plain : v ≡ false → _≡_ {A = Sense} (record { valid = v; filemark = f; eom = e; ili = i; key = key; information = 0; asc = asc; ascq = ascq }) (told counts f e i key asc ascq z)
+  unfolding told
+  told-plain h = rw (← ev, h) refl
+
+-- ---- the residue of signed counts: subtract the encodings, and the information is the encoding of count − signed movement
+
+pub told-signed : (counts f e i : Bool) (key asc ascq : ℕ) (a b : ℤ) → told counts f e i key asc ascq (subℕ (wrapped a) (wrapped b)) ≡ told counts f e i key asc ascq (a -ℤ b)
+unfolding told
+told-signed counts f e i key asc ascq a b = rw (wrapped-sub a b) refl

@@ -1,0 +1,162 @@
+// The eighteen sense bytes: made from their parts, taken apart again, and what a command tells by them.
+ghost use mathlib.Core.Path.{_≡_};
+ghost use mathlib.Core.Bool.{cond};
+ghost use Prim.Native.Nat.{_+_, _%_};
+ghost use lib.IntN.{subℕ};
+ghost use Rattle.sense.specs.Sense.{senseBytes, partsOf, emptySense, attentionSense};
+ghost use Rattle.sense.specs.Sense.{reports as Sense·reports, told as Sense·told, plainly as Sense·plainly};
+
+// The sense keys.
+pub const NO_SENSE: u8 = 0x0;
+
+pub const NOT_READY: u8 = 0x2;
+
+pub const ILLEGAL_REQUEST: u8 = 0x5;
+
+pub const UNIT_ATTENTION: u8 = 0x6;
+
+pub const DATA_PROTECT: u8 = 0x7;
+
+pub const BLANK_CHECK: u8 = 0x8;
+
+pub const VOLUME_OVERFLOW: u8 = 0xd;
+
+pub struct Sense {
+    pub valid: bool,
+    pub filemark: bool,
+    pub eom: bool,
+    pub ili: bool,
+    pub key: u8,
+    pub information: u32,
+    pub asc: u8,
+    pub ascq: u8,
+}
+
+// Byte 0: F0h with VALID, else 70h.
+fn first(valid: bool) -> u8
+    ensures { λ r. ⌜ r ≡ cond valid 0xF0 0x70 ⌝ }
+{
+    ((valid as u8) << 7) | 0x70
+}
+
+// Byte 2: FILEMARK 80h, EOM 40h, ILI 20h, key below.
+fn flags_and_key(filemark: bool, eom: bool, ili: bool, key: u8) -> u8
+    ensures { λ r. ⌜ r ≡ cond filemark 0x80 0 + cond eom 0x40 0 + cond ili 0x20 0 + key % 16 ⌝ }
+{
+    let f = (filemark as u8) << 7;
+    let e = (eom as u8) << 6;
+    let i = (ili as u8) << 5;
+    f | e | i | (key & 0x0f)
+}
+
+// The eighteen bytes of s.
+pub fn bytes_of(s: Sense) -> [u8; 18]
+    ensures { λ r. ⌜ r ≡ senseBytes s ⌝ }
+{
+    let first = first(s.valid);
+    let third = flags_and_key(s.filemark, s.eom, s.ili, s.key);
+    let n = s.information;
+    [
+        first,
+        0,
+        third,
+        (n >> 24 & 255) as u8,
+        (n >> 16 & 255) as u8,
+        (n >> 8 & 255) as u8,
+        (n & 255) as u8,
+        0x0a,
+        0,
+        0,
+        0,
+        0,
+        s.asc,
+        s.ascq,
+        0,
+        0,
+        0,
+        0,
+    ]
+}
+
+// Eighteen bytes taken apart.
+pub fn parts_of(b: &[u8; 18]) -> Sense
+    ensures { λ r. ⌜ r ≡ partsOf (now (b .entry)) ⌝ }
+{
+    let third = b[2];
+    Sense {
+        valid: b[0] >> 7 == 1,
+        filemark: third & 0x80 != 0,
+        eom: third & 0x40 != 0,
+        ili: third & 0x20 != 0,
+        key: third & 0x0f,
+        information: words::be32_at(b, 3),
+        asc: b[12],
+        ascq: b[13],
+    }
+}
+
+// Whether VALID is set: `counts` says that the command is READ, WRITE, WRITE FILEMARKS or SPACE.
+fn reports(counts: bool, key: u8) -> bool
+    ensures { λ r. ⌜ r ≡ Sense·reports counts key ⌝ }
+{
+    if !counts {
+        return false;
+    }
+    if key == NO_SENSE {
+        return true;
+    }
+    if key == BLANK_CHECK {
+        return true;
+    }
+    key == VOLUME_OVERFLOW
+}
+
+// What a command tells, with the residue request - actual where VALID is set.
+pub fn told(
+    counts: bool,
+    filemark: bool,
+    eom: bool,
+    ili: bool,
+    key: u8,
+    asc: u8,
+    ascq: u8,
+    request: u32,
+    actual: u32,
+) -> Sense
+    ensures { λ r. ⌜ r ≡ Sense·told counts filemark eom ili key asc ascq (subℕ request actual) ⌝ }
+{
+    let valid = reports(counts, key);
+    let residue = words::difference(request, actual);
+    let information = if valid { residue } else { 0 };
+    Sense {
+        valid,
+        filemark,
+        eom,
+        ili,
+        key,
+        information,
+        asc,
+        ascq,
+    }
+}
+
+// The sense with key, ASC and ASCQ alone.
+pub fn plainly(key: u8, asc: u8, ascq: u8) -> [u8; 18]
+    ensures { λ r. ⌜ r ≡ senseBytes (Sense·plainly key asc ascq) ⌝ }
+{
+    bytes_of(told(false, false, false, false, key, asc, ascq, 0, 0))
+}
+
+// The empty sense.
+pub fn empty() -> [u8; 18]
+    ensures { λ r. ⌜ r ≡ emptySense ⌝ }
+{
+    plainly(NO_SENSE, 0x00, 0x00)
+}
+
+// The sense of a waiting attention.
+pub fn of_attention(attention: u8) -> [u8; 18]
+    ensures { λ r. ⌜ r ≡ attentionSense attention ⌝ }
+{
+    plainly(UNIT_ATTENTION, attention, 0x00)
+}
