@@ -10,8 +10,9 @@ use borrow.Author.Tests.{eq-eqb, ne-eqb, lt-ltb, leb-true, eqb-false, ltb-false}
 use lib.Bits.{bitAnd}
 use lib.Dec.{eqb, leb, ltb}
 use lib.ListN.{length, getD, replicate, getD-replicate, List·getD-eq-default}
-use Rattle.codes.specs.declared.operation.Operation.the-variants.{NotServed}
-use Rattle.codes.specs.Codes.{Row, rows, noRow, lengthOf, codeOf, tooShort, rowOf, operationAt, maskAt, inMasks}
+use Rattle.codes.specs.declared.operation.Operation.{Operation}
+use Rattle.codes.specs.declared.operation.Operation.the-variants.{TestUnitReady, Rewind, RequestSense, ReadBlockLimits, Read, Write, WriteFilemarks, Space, ModeSelect, Erase, ModeSense, LoadUnload, Locate, ReadPosition, NotServed}
+use Rattle.codes.specs.Codes.{numberOf, operationOf, Row, rows, noRow, lengthOf, codeOf, tooShort, rowOf, operationAt, maskAt, inMasks}
 use Rattle.codes.proofs.Table.{tab, rule}
 
 -- ---- a served command has 2 to 10 bytes, and its row is below 14 (no row is above): 1 at each code where that is so
@@ -85,3 +86,22 @@ no-command r h = sym (ap (λ (x : Row). x .operation) (List·getD-eq-default row
 -- a number that is none of 0 to k is above k
 pub climb : (k r : ℕ) → k ≤ r → (r ≡ k → ⊥) → suc k ≤ r
 climb k r h n = omega arith
+
+-- ---- an operation's number is its code
+
+pub operation-number : (o : Operation) → operationOf (numberOf o) ≡ o
+operation-number TestUnitReady = refl
+operation-number Rewind = refl
+operation-number RequestSense = refl
+operation-number ReadBlockLimits = refl
+operation-number Read = refl
+operation-number Write = refl
+operation-number WriteFilemarks = refl
+operation-number Space = refl
+operation-number ModeSelect = refl
+operation-number Erase = refl
+operation-number ModeSense = refl
+operation-number LoadUnload = refl
+operation-number Locate = refl
+operation-number ReadPosition = refl
+operation-number NotServed = refl

@@ -23,51 +23,69 @@ tooShort cmd = eqb (length cmd) 0 || ltb (length cmd) (lengthOf (codeOf cmd))
 
 -- ---- the commands served
 
+-- the number of each: its operation code; for what is not served, a number that is no byte
+abbrev pub numberOf : Operation → ℕ
+numberOf TestUnitReady = 0x00
+numberOf Rewind = 0x01
+numberOf RequestSense = 0x03
+numberOf ReadBlockLimits = 0x05
+numberOf Read = 0x08
+numberOf Write = 0x0A
+numberOf WriteFilemarks = 0x10
+numberOf Space = 0x11
+numberOf ModeSelect = 0x15
+numberOf Erase = 0x19
+numberOf ModeSense = 0x1A
+numberOf LoadUnload = 0x1B
+numberOf Locate = 0x2B
+numberOf ReadPosition = 0x34
+numberOf NotServed = 0x100
+
 -- an operation code, its command, and the masks of the bytes from byte 1 on: byte:bits, others 00
 pub record Row : Type 0 where
   pub code : ℕ
   pub operation : Operation
   pub masks : List ℕ
 
-abbrev pub row : ℕ → Operation → List ℕ → Row
-row c o m = record { code = c; operation = o; masks = m }
+abbrev pub row : Operation → List ℕ → Row
+row o m = record { code = numberOf o; operation = o; masks = m }
 
 -- one line a command, as 01 writes them
 abbrev pub rows : List Row
 rows =
     -- 00 TEST UNIT READY none
-    row 0x00 TestUnitReady [] ∷
+    row TestUnitReady [] ∷
     -- 01 REWIND 1:01
-    row 0x01 Rewind (0x01 ∷ []) ∷
+    row Rewind (0x01 ∷ []) ∷
     -- 03 REQUEST SENSE 4:FF
-    row 0x03 RequestSense (0x00 ∷ 0x00 ∷ 0x00 ∷ 0xFF ∷ []) ∷
+    row RequestSense (0x00 ∷ 0x00 ∷ 0x00 ∷ 0xFF ∷ []) ∷
     -- 05 READ BLOCK LIMITS none
-    row 0x05 ReadBlockLimits [] ∷
+    row ReadBlockLimits [] ∷
     -- 08 READ 1:03 2–4:FF
-    row 0x08 Read (0x03 ∷ 0xFF ∷ 0xFF ∷ 0xFF ∷ []) ∷
+    row Read (0x03 ∷ 0xFF ∷ 0xFF ∷ 0xFF ∷ []) ∷
     -- 0A WRITE 1:01 2–4:FF
-    row 0x0A Write (0x01 ∷ 0xFF ∷ 0xFF ∷ 0xFF ∷ []) ∷
+    row Write (0x01 ∷ 0xFF ∷ 0xFF ∷ 0xFF ∷ []) ∷
     -- 10 WRITE FILEMARKS 2–4:FF
-    row 0x10 WriteFilemarks (0x00 ∷ 0xFF ∷ 0xFF ∷ 0xFF ∷ []) ∷
+    row WriteFilemarks (0x00 ∷ 0xFF ∷ 0xFF ∷ 0xFF ∷ []) ∷
     -- 11 SPACE 1:0F 2–4:FF
-    row 0x11 Space (0x0F ∷ 0xFF ∷ 0xFF ∷ 0xFF ∷ []) ∷
+    row Space (0x0F ∷ 0xFF ∷ 0xFF ∷ 0xFF ∷ []) ∷
     -- 15 MODE SELECT 1:10 4:FF
-    row 0x15 ModeSelect (0x10 ∷ 0x00 ∷ 0x00 ∷ 0xFF ∷ []) ∷
+    row ModeSelect (0x10 ∷ 0x00 ∷ 0x00 ∷ 0xFF ∷ []) ∷
     -- 19 ERASE 1:03
-    row 0x19 Erase (0x03 ∷ []) ∷
+    row Erase (0x03 ∷ []) ∷
     -- 1A MODE SENSE 1:08 2:3F 4:FF
-    row 0x1A ModeSense (0x08 ∷ 0x3F ∷ 0x00 ∷ 0xFF ∷ []) ∷
+    row ModeSense (0x08 ∷ 0x3F ∷ 0x00 ∷ 0xFF ∷ []) ∷
     -- 1B LOAD UNLOAD 1:01 4:01
-    row 0x1B LoadUnload (0x01 ∷ 0x00 ∷ 0x00 ∷ 0x01 ∷ []) ∷
+    row LoadUnload (0x01 ∷ 0x00 ∷ 0x00 ∷ 0x01 ∷ []) ∷
     -- 2B LOCATE 1:03 3–6:FF 8:FF
-    row 0x2B Locate (0x03 ∷ 0x00 ∷ 0xFF ∷ 0xFF ∷ 0xFF ∷ 0xFF ∷ 0x00 ∷ 0xFF ∷ []) ∷
+    row Locate (0x03 ∷ 0x00 ∷ 0xFF ∷ 0xFF ∷ 0xFF ∷ 0xFF ∷ 0x00 ∷ 0xFF ∷ []) ∷
     -- 34 READ POSITION 1:1F
-    row 0x34 ReadPosition (0x1F ∷ []) ∷
+    row ReadPosition (0x1F ∷ []) ∷
     []
 
 -- an operation code that is not served
 abbrev pub noRow : Row
-noRow = row 0x00 NotServed []
+noRow = row NotServed []
 
 -- where an operation code stands in the rows, counted from i; past their end where it does not
 abbrev pub placeIn : List Row → ℕ → ℕ → ℕ

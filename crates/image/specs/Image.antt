@@ -99,23 +99,36 @@ sound s =
     && ordered s (count s)
     && leb (endAt s (count s)) (directory s)
 
--- ---- room
+-- ---- room, by the length L, a number n and the end e = end(n)
 
 -- U(n) = 4n + end(n)
-unfoldable pub used : List ℕ → ℕ → ℕ
-used s n = entryLength * n + endAt s n
+abbrev pub usedOf : ℕ → ℕ → ℕ
+usedOf n e = entryLength * n + e
 
 -- room at n = L − 16 − U(n)
+abbrev pub roomOf : ℕ → ℕ → ℕ → ℕ
+roomOf l n e = l - trailerLength - usedOf n e
+
+-- "An object needs 4 bytes and its data": one with k bytes of data fits in the room r
+abbrev pub fitsIn : ℕ → ℕ → Bool
+fitsIn r k = leb (entryLength + k) r
+
+-- "in the early-warning zone if room × 16 < L − 16"
+abbrev pub zoneIn : ℕ → ℕ → Bool
+zoneIn l r = ltb (r * warningShare) (l - trailerLength)
+
+-- the same of an image
+unfoldable pub used : List ℕ → ℕ → ℕ
+used s n = usedOf n (endAt s n)
+
 unfoldable pub room : List ℕ → ℕ → ℕ
-room s n = length s - trailerLength - used s n
+room s n = roomOf (length s) n (endAt s n)
 
--- "An object needs 4 bytes and its data": one with k bytes of data fits at number n, by the room there
 unfoldable pub fits : List ℕ → ℕ → ℕ → Bool
-fits s n k = leb (entryLength + k) (room s n)
+fits s n k = fitsIn (room s n) k
 
--- position n is in the early-warning zone
 unfoldable pub zone : List ℕ → ℕ → Bool
-zone s n = ltb (room s n * warningShare) (length s - trailerLength)
+zone s n = zoneIn (length s) (room s n)
 
 -- ---- objects
 

@@ -1,0 +1,291 @@
+-- What each command does once every test has passed (01, "What each command does"): from its fields, the bytes sent, the drive, and what it may
+-- see of the partition; never from the raw image.
+-- Assumes nothing: these are definitions.
+use Prim.Native.Nat.{ℕ, suc, _+_}
+use mathlib.Core.Bool.{Bool, true, false, cond, not, _&&_, _||_}
+use mathlib.Core.Option.{Option, none, some}
+use mathlib.Core.List.{List, [], _∷_}
+use lib.Dec.{eqb, leb, ltb}
+use lib.IntN.{ℤ, pos, negsuc, subℕ}
+use lib.ListN.{length, take, drop, getElem?}
+use Rattle.words.specs.Words.{limited}
+use Rattle.objects.specs.Object.{Object, filemark, block, bytesIn, filemarksIn}
+use Rattle.objects.specs.Movement as M
+use Rattle.objects.specs.Events.{Event, cut}
+use Rattle.image.specs.Image.{roomOf, zoneIn}
+use Rattle.sense.specs.declared.Sense.{Sense}
+use Rattle.sense.specs.Sense.{noSense, illegalRequest, blankCheck, volumeOverflow, told, plainly, attentionSense}
+use Rattle.record.specs.declared.drive.Drive.{Drive}
+use Rattle.record.specs.Record.{noAttention, loadedAnew, unloaded}
+use Rattle.codes.specs.declared.operation.Operation.{Operation}
+use Rattle.codes.specs.declared.operation.Operation.the-variants.{TestUnitReady, Rewind, RequestSense, ReadBlockLimits, Read, Write, WriteFilemarks, Space, ModeSelect, Erase, ModeSense, LoadUnload, Locate, ReadPosition, NotServed}
+use Rattle.codes.specs.Fields.{fixedOf, siliOf, transferOf, spaceCodeOf, spaceCountOf, changesPartition, objectOf, partitionOf, loadOf, formOf, dbdOf, allocationOf}
+use Rattle.transfer.specs.Transfer.{Ended, whole, oddLength, atFilemark, atEnd, Run, runOf, blocksOf, marksOf, fitting, putFrom}
+use Rattle.commands.specs.Mode.{blockLimits, modeData, wholeLength, listRight, newLength, shortPosition, longPosition}
+
+-- ---- what a command may see of the partition that it looks at
+
+pub record Seen : Type 0 where
+  pub size : ℕ
+  pub guarded : Bool
+  pub objects : List Object
+
+-- the early-warning zone, at a number up to N
+abbrev pub zoneAt : Seen → ℕ → Bool
+zoneAt v n = zoneIn (v .size) (roomOf (v .size) n (bytesIn (take n (v .objects))))
+
+-- the EOM bit at end of data: "EOM 0 (H)"
+abbrev pub eomAtEnd : Seen → Bool
+eomAtEnd v = false
+
+-- ---- what it leaves: the drive but for its sense, what it tells (nothing: GOOD), the data for the receiving buffer, and the bytes carried
+
+pub record Deed : Type 0 where
+  pub drive : Drive
+  pub tells : Option Sense
+  pub received : List ℕ
+  pub carried : ℕ
+
+abbrev pub good : Drive → Deed
+good d = record { drive = d; tells = none; received = []; carried = 0 }
+
+abbrev pub checked : Drive → Sense → Deed
+checked d s = record { drive = d; tells = some s; received = []; carried = 0 }
+
+-- with data for the receiving buffer
+abbrev pub giving : List ℕ → Deed → Deed
+giving b e = record { drive = e .drive; tells = e .tells; received = b; carried = length b }
+
+-- with bytes carried from the data sent
+abbrev pub carrying : ℕ → Deed → Deed
+carrying n e = record { drive = e .drive; tells = e .tells; received = e .received; carried = n }
+
+-- the drive at position n
+abbrev pub at : Drive → ℕ → Drive
+at d n = record { loaded = d .loaded; partitions = d .partitions; current = d .current; attention = d .attention; position = n; «block_length» = d .«block_length»; sense = d .sense }
+
+abbrev pub atPartition : Drive → ℕ → ℕ → Drive
+atPartition d k n = record { loaded = d .loaded; partitions = d .partitions; current = k; attention = d .attention; position = n; «block_length» = d .«block_length»; sense = d .sense }
+
+abbrev pub withLength : Drive → ℕ → Drive
+withLength d n = record { loaded = d .loaded; partitions = d .partitions; current = d .current; attention = d .attention; position = d .position; «block_length» = n; sense = d .sense }
+
+abbrev pub unattended : Drive → Drive
+unattended d = record { loaded = d .loaded; partitions = d .partitions; current = d .current; attention = noAttention; position = d .position; «block_length» = d .«block_length»; sense = d .sense }
+
+-- ---- the senses of a command that reports its residue
+
+-- a filemark met: 0/00/01, FILEMARK
+abbrev pub filemarkMet : ℤ → Sense
+filemarkMet residue = told true true false false noSense 0x00 0x01 residue
+
+-- end of data: 8/00/05
+abbrev pub endMet : Seen → ℤ → Sense
+endMet v residue = told true false (eomAtEnd v) false blankCheck 0x00 0x05 residue
+
+-- a block of another length: ILI, 0/00/00
+abbrev pub oddMet : ℤ → Sense
+oddMet residue = told true false false true noSense 0x00 0x00 residue
+
+-- the beginning met: 0/00/04 with EOM
+abbrev pub beginningMet : ℤ → Sense
+beginningMet residue = told true false true false noSense 0x00 0x04 residue
+
+-- ---- READ
+
+-- "SILI hides an unequal length, except overlength with a nonzero block length."
+unfoldable pub hidden : Drive → List ℕ → ℕ → Bool
+hidden d cmd len = siliOf cmd && not (ltb (transferOf cmd) len && not (eqb (d .«block_length») 0))
+
+-- a block bs met by a variable READ: "carries the smaller of request and block; unequal gives ILI, information request − its length, position after"
+abbrev pub readBlock : Drive → List ℕ → List ℕ → Deed
+readBlock d cmd bs =
+    let n = transferOf cmd in
+    giving (take n bs)
+    (cond (eqb (length bs) n || hidden d cmd (length bs)) (good (at d (suc (d .position)))) (checked (at d (suc (d .position))) (oddMet (subℕ n (length bs)))))
+
+-- what lies at the position: a block, a filemark (position after), end of data (position there)
+unfoldable pub readVariable : Drive → List ℕ → Seen → Option Object → Deed
+readVariable d cmd v (some (block bs)) = readBlock d cmd bs
+readVariable d cmd v (some filemark) = checked (at d (suc (d .position))) (filemarkMet (pos (transferOf cmd)))
+readVariable d cmd v none = checked d (endMet v (pos (transferOf cmd)))
+
+-- what a run of whole blocks tells: the residue is the blocks not read
+unfoldable pub runTells : Seen → Ended → ℤ → Option Sense
+runTells v whole z = none
+runTells v oddLength z = some (oddMet z)
+runTells v atFilemark z = some (filemarkMet z)
+runTells v atEnd z = some (endMet v z)
+
+abbrev pub readRun : Drive → Seen → ℕ → Run → Deed
+readRun d v n r = record { drive = at d (d .position + r .crossed); tells = runTells v (r .why) (subℕ n (r .blocks)); received = r .bytes; carried = length (r .bytes) }
+
+-- "Length 0: GOOD, no movement."
+unfoldable pub reading : Drive → List ℕ → Seen → Deed
+reading d cmd v =
+    cond (eqb (transferOf cmd) 0) (good d)
+    (cond (fixedOf cmd) (readRun d v (transferOf cmd) (runOf (d .«block_length») (transferOf cmd) (drop (d .position) (v .objects))))
+    (readVariable d cmd v (getElem? (v .objects) (d .position))))
+
+-- ---- WRITE and WRITE FILEMARKS
+
+-- what is offered to the tape
+unfoldable pub offered : Operation → Drive → List ℕ → List ℕ → List Object
+offered Write d cmd sent = cond (fixedOf cmd) (blocksOf (d .«block_length») (transferOf cmd) sent) (cond (eqb (transferOf cmd) 0) [] (block (take (transferOf cmd) sent) ∷ []))
+offered WriteFilemarks d cmd sent = marksOf (transferOf cmd)
+offered TestUnitReady d cmd sent = []
+offered Rewind d cmd sent = []
+offered RequestSense d cmd sent = []
+offered ReadBlockLimits d cmd sent = []
+offered Read d cmd sent = []
+offered Space d cmd sent = []
+offered ModeSelect d cmd sent = []
+offered Erase d cmd sent = []
+offered ModeSense d cmd sent = []
+offered LoadUnload d cmd sent = []
+offered Locate d cmd sent = []
+offered ReadPosition d cmd sent = []
+offered NotServed d cmd sent = []
+
+-- what of it goes down, the first at the position
+unfoldable pub goesDown : Operation → Drive → List ℕ → List ℕ → Seen → List Object
+goesDown o d cmd sent v = fitting (v .size) (d .position) (bytesIn (take (d .position) (v .objects))) (offered o d cmd sent)
+
+-- "All put and the new position in the zone: 0/00/02, EOM, information 0 (H)."
+abbrev pub warned : Sense
+warned = told true false true false noSense 0x00 0x02 (pos 0)
+
+-- "Not all put: D/00/02, EOM, residue not put (variable: the request)."
+abbrev pub overflowed : ℤ → Sense
+overflowed residue = told true false true false volumeOverflow 0x00 0x02 residue
+
+-- n were asked for, of which the objects os went down; `short` is the residue where not all did
+unfoldable pub wrote : Drive → Seen → ℕ → List Object → ℤ → Deed
+wrote d v n os short =
+    let there = d .position + length os in
+    let e = at d there in
+    cond (eqb (length os) n)
+    (cond (zoneIn (v .size) (roomOf (v .size) there (bytesIn (take (d .position) (v .objects)) + bytesIn os))) (checked e warned) (good e))
+    (checked e (overflowed short))
+
+-- "Either with zero: GOOD, nothing on the cartridge changes." A variable WRITE asks for one block, and what is not put of it is the request.
+unfoldable pub writing : Drive → List ℕ → List ℕ → Seen → Deed
+writing d cmd sent v =
+    let n = transferOf cmd in
+    let os = goesDown Write d cmd sent v in
+    cond (eqb n 0) (good d)
+    (carrying (bytesIn os)
+    (cond (fixedOf cmd) (wrote d v n os (subℕ n (length os))) (wrote d v 1 os (subℕ n (bytesIn os)))))
+
+unfoldable pub marking : Drive → List ℕ → List ℕ → Seen → Deed
+marking d cmd sent v =
+    let n = transferOf cmd in
+    let os = goesDown WriteFilemarks d cmd sent v in
+    cond (eqb n 0) (good d) (wrote d v n os (subℕ n (length os)))
+
+-- ---- SPACE
+
+-- how a movement ended: a filemark crossed that was not asked for; end of data going on, the beginning going back
+unfoldable pub spaceTells : Seen → ℤ → M.Move → Option Sense
+spaceTells v k m = by (m .why) k
+  where
+    by : M.Why → ℤ → Option Sense
+    by M.done k = none
+    by M.marked k = some (filemarkMet (M.residue k m))
+    by M.edge (pos n) = some (endMet v (M.residue (pos n) m))
+    by M.edge (negsuc n) = some (beginningMet (M.residue (negsuc n) m))
+
+abbrev pub moved : Drive → Seen → ℤ → M.Move → Deed
+moved d v k m = record { drive = at d (m .to); tells = spaceTells v k m; received = []; carried = 0 }
+
+-- code 0 blocks, code 1 filemarks, code 3 "count ignored, to end of data, GOOD"
+unfoldable pub spacing : Drive → List ℕ → Seen → Deed
+spacing d cmd v =
+    let k = spaceCountOf cmd in
+    cond (eqb (spaceCodeOf cmd) 3) (good (at d (length (v .objects))))
+    (moved d v k (M.space (cond (eqb (spaceCodeOf cmd) 0) M.blocks M.filemarks) k (d .position) (v .objects)))
+
+-- ---- LOCATE
+
+-- the partition: "byte 8 partition if bit 1 (CP), else ignored"
+unfoldable pub targetOf : Drive → List ℕ → ℕ
+targetOf d cmd = cond (changesPartition cmd) (partitionOf cmd) (d .current)
+
+-- "Above N: 8/00/05, EOM 0, at N of the target (H)." v is what is seen of the target.
+unfoldable pub locating : Drive → List ℕ → Seen → Deed
+locating d cmd v =
+    let n = length (v .objects) in
+    cond (leb (objectOf cmd) n) (good (atPartition d (targetOf d cmd) (objectOf cmd)))
+    (checked (atPartition d (targetOf d cmd) n) (told false false (eomAtEnd v) false blankCheck 0x00 0x05 (pos 0)))
+
+-- ---- MODE SELECT
+
+-- "else 5/26/00, block length kept, 0 carried"
+unfoldable pub selecting : Drive → List ℕ → List ℕ → Deed
+selecting d cmd sent =
+    let n = allocationOf cmd in
+    cond (eqb n 0) (good d)
+    (cond (listRight n sent) (carrying n (good (cond (eqb n wholeLength) (withLength d (newLength sent)) d)))
+    (checked d (plainly illegalRequest 0x26 0x00)))
+
+-- ---- the commands that answer with data, cut at an allocation where they have one
+
+unfoldable pub replyOf : Operation → Drive → List ℕ → Seen → List ℕ
+replyOf RequestSense d cmd v = limited (allocationOf cmd) (cond (eqb (d .attention) noAttention) (d .sense) (attentionSense (d .attention)))
+replyOf ReadBlockLimits d cmd v = blockLimits
+replyOf ModeSense d cmd v = limited (allocationOf cmd) (modeData (dbdOf cmd) (v .guarded) (d .«block_length»))
+replyOf ReadPosition d cmd v =
+    let z = zoneAt v (d .position) in
+    cond (eqb (formOf cmd) 0x00) (shortPosition (d .current) (d .position) z) (longPosition (d .current) (d .position) z (filemarksIn (take (d .position) (v .objects))))
+replyOf TestUnitReady d cmd v = []
+replyOf Rewind d cmd v = []
+replyOf Read d cmd v = []
+replyOf Write d cmd v = []
+replyOf WriteFilemarks d cmd v = []
+replyOf Space d cmd v = []
+replyOf ModeSelect d cmd v = []
+replyOf Erase d cmd v = []
+replyOf LoadUnload d cmd v = []
+replyOf Locate d cmd v = []
+replyOf NotServed d cmd v = []
+
+-- ---- each command
+
+unfoldable pub act : Operation → Drive → List ℕ → List ℕ → Seen → Deed
+act TestUnitReady d cmd sent v = good d
+-- position 0
+act Rewind d cmd sent v = good (at d 0)
+-- "pending attention if any, else kept sense, cut at byte 4. GOOD clears both."
+act RequestSense d cmd sent v = giving (replyOf RequestSense d cmd v) (good (unattended d))
+act ReadBlockLimits d cmd sent v = giving (replyOf ReadBlockLimits d cmd v) (good d)
+act Read d cmd sent v = reading d cmd v
+act Write d cmd sent v = writing d cmd sent v
+act WriteFilemarks d cmd sent v = marking d cmd sent v
+act Space d cmd sent v = spacing d cmd v
+act ModeSelect d cmd sent v = selecting d cmd sent
+-- "N becomes the position, D follows; .. Position stays."
+act Erase d cmd sent v = good d
+act ModeSense d cmd sent v = giving (replyOf ModeSense d cmd v) (good d)
+act LoadUnload d cmd sent v = good (cond (loadOf cmd) (loadedAnew d) (unloaded d))
+act Locate d cmd sent v = locating d cmd v
+act ReadPosition d cmd sent v = giving (replyOf ReadPosition d cmd v) (good d)
+act NotServed d cmd sent v = good d
+
+-- ---- the events that it causes on the partition, by their own clauses
+
+unfoldable pub eventsOf : Operation → Drive → List ℕ → List ℕ → Seen → List Event
+eventsOf Write d cmd sent v = putFrom (d .position) (goesDown Write d cmd sent v)
+eventsOf WriteFilemarks d cmd sent v = putFrom (d .position) (goesDown WriteFilemarks d cmd sent v)
+eventsOf Erase d cmd sent v = cut (d .position) ∷ []
+eventsOf TestUnitReady d cmd sent v = []
+eventsOf Rewind d cmd sent v = []
+eventsOf RequestSense d cmd sent v = []
+eventsOf ReadBlockLimits d cmd sent v = []
+eventsOf Read d cmd sent v = []
+eventsOf Space d cmd sent v = []
+eventsOf ModeSelect d cmd sent v = []
+eventsOf ModeSense d cmd sent v = []
+eventsOf LoadUnload d cmd sent v = []
+eventsOf Locate d cmd sent v = []
+eventsOf ReadPosition d cmd sent v = []
+eventsOf NotServed d cmd sent v = []

@@ -1,0 +1,70 @@
+-- The tests of a command in 01's order ("Command order"), after 1 and 4: attention; operation code; fields; (MODE SELECT's list length); nothing loaded;
+-- LOCATE's partition number or protection; 2 or 3.
+-- Assumes nothing: these are definitions.
+use Prim.Native.Nat.{ℕ, _*_}
+use mathlib.Core.Bool.{Bool, false, cond, not, _&&_, _||_}
+use mathlib.Core.List.{List, [], _∷_}
+use lib.Dec.{eqb, leb, ltb}
+use lib.ListN.{length}
+use Rattle.objects.specs.Object.{largestBlock}
+use Rattle.sense.specs.Sense.{notReady, illegalRequest, dataProtect}
+use Rattle.record.specs.declared.drive.Drive.{Drive}
+use Rattle.record.specs.Record.{noAttention}
+use Rattle.codes.specs.declared.operation.Operation.{Operation}
+use Rattle.codes.specs.declared.operation.Operation.the-variants.{TestUnitReady, Rewind, RequestSense, ReadBlockLimits, Read, Write, WriteFilemarks, Space, ModeSelect, Erase, ModeSense, LoadUnload, Locate, ReadPosition, NotServed}
+use Rattle.codes.specs.Codes.{masksHold}
+use Rattle.codes.specs.Fields.{fixedOf, siliOf, transferOf, spaceCodeOf, changesPartition, partitionOf, formOf, pageOf, pfOf, allocationOf}
+use Rattle.commands.specs.Stop.{Stop, refuse, attend, fault}
+use Rattle.commands.specs.Kinds.{among, passesAttention, isServed, needsCartridge, writes}
+use Rattle.commands.specs.Mode.{listLengthKnown}
+use Rattle.commands.specs.Act.{Seen, replyOf}
+
+-- "length × block length (FIXED) or length bytes"
+unfoldable pub bytesAsked : Drive → List ℕ → ℕ
+bytesAsked d cmd = cond (fixedOf cmd) (transferOf cmd * d .«block_length») (transferOf cmd)
+
+-- the field errors beyond the masks, by command
+unfoldable pub fieldError : Operation → Drive → List ℕ → Bool
+-- "Both, or FIXED with block length 0"
+fieldError Read d cmd = fixedOf cmd && (siliOf cmd || eqb (d .«block_length») 0)
+-- "FIXED .. as READ; variable length above 65,536"
+fieldError Write d cmd = cond (fixedOf cmd) (eqb (d .«block_length») 0) (ltb largestBlock (transferOf cmd))
+-- "Other codes than 0, 1, 3"
+fieldError Space d cmd = not (eqb (spaceCodeOf cmd) 0 || eqb (spaceCodeOf cmd) 1 || eqb (spaceCodeOf cmd) 3)
+-- "PF must be 1"
+fieldError ModeSelect d cmd = not (pfOf cmd)
+-- "page 00h or 3Fh, else field error"
+fieldError ModeSense d cmd = not (eqb (pageOf cmd) 0x00 || eqb (pageOf cmd) 0x3F)
+-- "other forms field error"
+fieldError ReadPosition d cmd = not (eqb (formOf cmd) 0x00 || eqb (formOf cmd) 0x06)
+fieldError TestUnitReady d cmd = false
+fieldError Rewind d cmd = false
+fieldError RequestSense d cmd = false
+fieldError ReadBlockLimits d cmd = false
+fieldError WriteFilemarks d cmd = false
+fieldError Erase d cmd = false
+fieldError LoadUnload d cmd = false
+fieldError Locate d cmd = false
+fieldError NotServed d cmd = false
+
+-- how many bytes the command takes from the data sent
+unfoldable pub taken : Operation → Drive → List ℕ → ℕ
+taken o d cmd = cond (among (Write ∷ []) o) (bytesAsked d cmd) (cond (among (ModeSelect ∷ []) o) (allocationOf cmd) 0)
+
+-- how many bytes of the receiving buffer it may need
+unfoldable pub needed : Operation → Drive → List ℕ → Seen → ℕ
+needed o d cmd v = cond (among (Read ∷ []) o) (bytesAsked d cmd) (length (replyOf o d cmd v))
+
+unfoldable pub tests : Operation → Drive → List ℕ → Seen → List ℕ → List ℕ → List (Bool × Stop)
+tests o d cmd v sent received =
+    (not (eqb (d .attention) noAttention) && not (passesAttention o), attend)
+    ∷ (not (isServed o), fault illegalRequest 0x20 0x00)
+    ∷ (not (masksHold cmd) || fieldError o d cmd, fault illegalRequest 0x24 0x00)
+    -- "else 5/1A/00, tested just after the fields"
+    ∷ (among (ModeSelect ∷ []) o && not (listLengthKnown (allocationOf cmd)), fault illegalRequest 0x1A 0x00)
+    ∷ (needsCartridge o && eqb (d .loaded) 0, fault notReady 0x3A 0x00)
+    ∷ (among (Locate ∷ []) o && changesPartition cmd && leb (d .partitions) (partitionOf cmd), fault illegalRequest 0x24 0x00)
+    ∷ (writes o && v .guarded, fault dataProtect 0x27 0x00)
+    ∷ (ltb (length sent) (taken o d cmd), refuse 2)
+    ∷ (ltb (length received) (needed o d cmd v), refuse 3)
+    ∷ []

@@ -1,0 +1,41 @@
+-- P1 to P12 of 01, and the case beside them, as one statement about the definition of the whole call: each is computed, bytes to bytes.
+-- Assumes nothing.
+use mathlib.Core.Path.{refl}
+use Rattle.words.specs.Words.{be, bytes, over}
+use Rattle.words.specs.Signed.{signed, wrapped}
+use Rattle.objects.specs.Object.{bytesIn, filemarksIn}
+use Rattle.objects.specs.Movement as M
+use Rattle.image.specs.Image.{count, flags, protected, directory, size, entry, topBit, low31, endAt, follows, ordered, rightLength, sound, objectAt, upto, objects}
+use Rattle.image.specs.Changes.{retitle, entryOf, enter, occur, occurs, cleared, blank, protect, reflag}
+use Rattle.image.proofs.Example.{E}
+use Rattle.sense.specs.Sense.{senseBytes, reports, told, emptySense, attentionSense}
+use Rattle.record.specs.Record.{decodeOf, encodeOf, attentionKnown, emptyHanded, placed, wellFormed, wellRecord, withSense, unloaded, loadedAnew}
+use Rattle.codes.specs.Codes.{tooShort, inMasks, masksHold}
+use Rattle.codes.specs.Fields.{fixedOf, siliOf, transferOf, spaceCodeOf, spaceCountOf, longOf, changesPartition, objectOf, partitionOf, loadOf, formOf, dbdOf, pageOf, pfOf, allocationOf}
+use Rattle.commands.specs.Stop.{first}
+use Rattle.transfer.specs.Transfer.{runOf, blocksOf, marksOf, fitting, putFrom}
+use Rattle.commands.specs.Act.{hidden, readVariable, runTells, reading, offered, goesDown, wrote, writing, marking, spaceTells, spacing, targetOf, locating, selecting, replyOf, act, eventsOf}
+use Rattle.commands.specs.Tests.{bytesAsked, fieldError, taken, needed, tests}
+use Rattle.commands.specs.Call.{looksAt, seenOf, seen, inserted, stopped, statusOf, keptOf, changed, acted, stepOf, commandCall}
+use Rattle.commands.specs.Mode.{blockLimits, modeData, listLengthKnown, headerRight, descriptorRight, listRight, shortPosition, longPosition}
+use Rattle.edges.specs.Cases.{Edges, cases, blank64, ten, filemarks}
+use Rattle.edges.specs.Traps.{Traps, traps, full, guarded}
+
+pub edges : Edges cases
+unfolding Edges cases blank64 ten filemarks E be bytes over signed wrapped bytesIn filemarksIn M.walk M.before M.ahead M.astern M.space M.residue
+    count flags protected directory size entry topBit low31 endAt follows ordered rightLength sound objectAt upto objects retitle entryOf enter occur occurs cleared blank
+    senseBytes reports told emptySense attentionSense decodeOf encodeOf attentionKnown emptyHanded placed wellFormed wellRecord withSense tooShort inMasks masksHold
+    fixedOf siliOf transferOf spaceCodeOf spaceCountOf longOf changesPartition objectOf partitionOf loadOf formOf dbdOf pageOf pfOf allocationOf
+    first runOf blocksOf marksOf fitting putFrom hidden readVariable runTells reading offered goesDown wrote writing marking spaceTells spacing targetOf locating selecting replyOf act eventsOf
+    bytesAsked fieldError taken needed tests looksAt seenOf seen inserted stopped statusOf keptOf changed acted stepOf commandCall
+edges = (refl, (refl, (refl, (refl, (refl, (refl, (refl, (refl, (refl, (refl, (refl, (refl, (refl, (refl, (refl, tt)))))))))))))))
+
+-- and the cases beside the table
+pub trapped : Traps traps
+unfolding Traps traps full guarded blank64 ten E be bytes over signed wrapped bytesIn filemarksIn M.walk M.before M.ahead M.astern M.space M.residue
+    count flags protected directory size entry topBit low31 endAt follows ordered rightLength sound objectAt upto objects retitle entryOf enter occur occurs cleared blank
+    senseBytes reports told emptySense attentionSense decodeOf encodeOf attentionKnown emptyHanded placed wellFormed wellRecord withSense tooShort inMasks masksHold
+    fixedOf siliOf transferOf spaceCodeOf spaceCountOf longOf changesPartition objectOf partitionOf loadOf formOf dbdOf pageOf pfOf allocationOf
+    first runOf blocksOf marksOf fitting putFrom hidden readVariable runTells reading offered goesDown wrote writing marking spaceTells spacing targetOf locating selecting replyOf act eventsOf
+    bytesAsked fieldError taken needed tests looksAt seenOf seen inserted stopped statusOf keptOf changed acted stepOf commandCall protect reflag blockLimits modeData listLengthKnown headerRight descriptorRight listRight shortPosition longPosition unloaded loadedAnew
+trapped = (refl, (refl, (refl, (refl, (refl, (refl, (refl, (refl, (refl, (refl, (refl, (refl, (refl, (refl, (refl, (refl, (refl, (refl, (refl, (refl, (refl, (refl, (refl, (refl, (refl, (refl, (refl, (refl, (refl, (refl, (refl, (refl, tt))))))))))))))))))))))))))))))))
