@@ -25,5 +25,6 @@ pub use fields::space_code;
 pub use fields::space_count;
 pub use fields::transfer;
 pub use operation::Operation;
+pub use operation::number_of;
 pub use operation::operation_of;
 pub use operation::row_of;

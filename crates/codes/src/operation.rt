@@ -1,7 +1,7 @@
 // The commands served, and the row of each in the tables.
 ghost use mathlib.Core.Path.{_≡_};
 ghost use Prim.Native.Nat.{_<_};
-ghost use Rattle.codes.specs.Codes.{lengthOf, rowOf, operationAt, operationOf};
+ghost use Rattle.codes.specs.Codes.{lengthOf, numberOf, rowOf, operationAt, operationOf};
 use crate::lengths::LENGTHS;
 use crate::rows::ROWS;
 
@@ -67,4 +67,27 @@ pub fn operation_of(op: u8) -> Operation
     ensures { λ r. ⌜ r ≡ operationOf op ⌝ }
 {
     operation_at(row_of(op))
+}
+
+// The number of a command: its operation code; for what is not served, a number that is no byte.
+pub fn number_of(o: Operation) -> u16
+    ensures { λ r. ⌜ r ≡ numberOf o ⌝ }
+{
+    match o {
+        Operation::TestUnitReady => 0x00,
+        Operation::Rewind => 0x01,
+        Operation::RequestSense => 0x03,
+        Operation::ReadBlockLimits => 0x05,
+        Operation::Read => 0x08,
+        Operation::Write => 0x0a,
+        Operation::WriteFilemarks => 0x10,
+        Operation::Space => 0x11,
+        Operation::ModeSelect => 0x15,
+        Operation::Erase => 0x19,
+        Operation::ModeSense => 0x1a,
+        Operation::LoadUnload => 0x1b,
+        Operation::Locate => 0x2b,
+        Operation::ReadPosition => 0x34,
+        Operation::NotServed => 0x100,
+    }
 }

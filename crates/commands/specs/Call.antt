@@ -129,3 +129,12 @@ commandCall rec cmd p0 p1 sent received =
     cond (tooShort cmd) (result (refused 1) rec p0 p1 received)
     (cond (not (wellRecord rec && inserted (decodeOf rec) p0 p1)) (result (refused recordFault) rec p0 p1 received)
     (written rec (stepOf (decodeOf rec) cmd p0 p1 sent received)))
+
+-- the whole order as one list: 1, 4, and the tests of a command
+unfoldable pub commandTests : List ℕ → List ℕ → List ℕ → List ℕ → List ℕ → List ℕ → List (Bool × Stop)
+commandTests rec cmd p0 p1 sent received =
+    let d = decodeOf rec in
+    let o = operationOf (codeOf cmd) in
+    (tooShort cmd, refuse 1)
+    ∷ (not (wellRecord rec && inserted d p0 p1), refuse recordFault)
+    ∷ tests o d cmd (seen o d cmd p0 p1) sent received

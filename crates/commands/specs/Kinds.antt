@@ -10,7 +10,7 @@ use Rattle.codes.specs.Codes.{numberOf}
 -- o is one of these
 abbrev pub among : List Operation → Operation → Bool
 among [] o = false
-among (x ∷ xs) o = cond (eqb (numberOf x) (numberOf o)) true (among xs o)
+among (x ∷ xs) o = cond (eqb (numberOf o) (numberOf x)) true (among xs o)
 
 -- "REQUEST SENSE passes it": the attention
 abbrev pub passesAttention : Operation → Bool

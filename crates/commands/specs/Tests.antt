@@ -16,7 +16,7 @@ use Rattle.codes.specs.Codes.{masksHold}
 use Rattle.codes.specs.Fields.{fixedOf, siliOf, transferOf, spaceCodeOf, changesPartition, partitionOf, formOf, pageOf, pfOf, allocationOf}
 use Rattle.commands.specs.Stop.{Stop, refuse, attend, fault}
 use Rattle.commands.specs.Kinds.{among, passesAttention, isServed, needsCartridge, writes}
-use Rattle.commands.specs.Mode.{listLengthKnown}
+use Rattle.mode.specs.Mode.{listLengthKnown}
 use Rattle.commands.specs.Act.{Seen, replyOf}
 
 -- "length × block length (FIXED) or length bytes"

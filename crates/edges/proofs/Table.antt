@@ -17,7 +17,7 @@ use Rattle.transfer.specs.Transfer.{runOf, blocksOf, marksOf, fitting, putFrom}
 use Rattle.commands.specs.Act.{hidden, readVariable, runTells, reading, offered, goesDown, wrote, writing, marking, spaceTells, spacing, targetOf, locating, selecting, replyOf, act, eventsOf}
 use Rattle.commands.specs.Tests.{bytesAsked, fieldError, taken, needed, tests}
 use Rattle.commands.specs.Call.{looksAt, seenOf, seen, inserted, stopped, statusOf, keptOf, changed, acted, stepOf, commandCall}
-use Rattle.commands.specs.Mode.{blockLimits, modeData, listLengthKnown, headerRight, descriptorRight, listRight, shortPosition, longPosition}
+use Rattle.mode.specs.Mode.{blockLimits, modeData, listLengthKnown, headerRight, descriptorRight, listRight, shortPosition, longPosition}
 use Rattle.edges.specs.Cases.{Edges, cases, blank64, ten, filemarks}
 use Rattle.edges.specs.Traps.{Traps, traps, full, guarded}
 

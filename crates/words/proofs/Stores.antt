@@ -83,7 +83,11 @@ quotient2 v = sym (div-div-eq-div-mul v 256 256)
 quotient3 : (v : ℕ) → v / 16777216 ≡ v / 256 / 256 / 256
 quotient3 v = sym (div-div-eq-div-mul v 65536 256) ∙ ap (λ (q : ℕ). q / 256) (quotient2 v)
 
--- the four bytes of a number, by one division each
+-- the three and the four bytes of a number, by one division each
+pub three-bytes : (v : ℕ) → bytes 3 v ≡ v / 65536 % 256 ∷ v / 256 % 256 ∷ v % 256 ∷ []
+unfolding bytes
+three-bytes v = rw (quotient2 v) refl
+
 pub four-bytes : (v : ℕ) → bytes 4 v ≡ v / 16777216 % 256 ∷ v / 65536 % 256 ∷ v / 256 % 256 ∷ v % 256 ∷ []
 unfolding bytes
 four-bytes v = rw (quotient3 v, quotient2 v) refl

@@ -1,0 +1,168 @@
+-- Each refusal of a command is given exactly when 01's table says, by its order: when its own test holds and none before it does. And a stop
+-- other than a refusal, likewise, is the first test that holds.
+-- Assumes nothing.
+use Prim.Native.Nat.{ℕ, zero, suc, _<_}
+use mathlib.Core.Path.{_≡_, refl, sym, ap, _∙_, subst}
+use mathlib.Core.Logic.{_↔_}
+use mathlib.Core.Bool.{Bool, true, false, cond, not, _&&_}
+use mathlib.Core.Option.{Option, none, some}
+use mathlib.Core.List.{List, [], _∷_}
+use native.Mathlib.Omega.{arith}
+use borrow.Author.Tests.{ne-eqb}
+use lib.Dec.{eqb}
+use Rattle.answers.specs.Answers.{refused}
+use Rattle.record.specs.declared.drive.Drive.{Drive}
+use Rattle.record.specs.Record.{decodeOf, wellRecord}
+use Rattle.codes.specs.declared.operation.Operation.{Operation}
+use Rattle.codes.specs.Codes.{codeOf, tooShort, operationOf}
+use Rattle.commands.specs.Stop.{Stop, refuse, first}
+use Rattle.commands.specs.Act.{Seen}
+use Rattle.commands.specs.Tests.{tests}
+use Rattle.commands.specs.Call.{Outcome, result, seen, inserted, stopped, acted, stepOf, written, commandCall, commandTests}
+
+-- ---- lists of tests
+
+-- the stop of test k
+abbrev pub stopAt : List (Bool × Stop) → ℕ → Option Stop
+stopAt [] k = none
+stopAt (t ∷ ts) zero = some (t .1)
+stopAt (t ∷ ts) (suc k) = stopAt ts k
+
+-- none of the first k tests holds, and test k does
+abbrev pub FirstAt : List (Bool × Stop) → ℕ → Type 0
+FirstAt [] k = ⊥
+FirstAt (t ∷ ts) zero = t .0 ≡ true
+FirstAt (t ∷ ts) (suc k) = (t .0 ≡ false) × FirstAt ts k
+
+pub first-at : (ts : List (Bool × Stop)) (k : ℕ) → FirstAt ts k → first ts ≡ stopAt ts k
+unfolding first
+first-at [] k h = absurd h
+first-at (t ∷ ts) zero h = rw h refl
+first-at (t ∷ ts) (suc k) h = rw (h .0) (first-at ts k (h .1))
+
+pub record Held (ts : List (Bool × Stop)) (s : Stop) : Type 0 where
+  pub at : ℕ
+  pub holds : FirstAt ts at
+  pub says : stopAt ts at ≡ some s
+
+pub held : (ts : List (Bool × Stop)) (s : Stop) → first ts ≡ some s → Held ts s
+unfolding first
+held [] s e = absurd (let z : _≡_ {A = ℕ} 0 1 = cc in omega arith)
+held (t ∷ ts) s e = go (t .0) refl e (held ts s)
+  where
+    go : (b : Bool) → t .0 ≡ b → cond b (some (t .1)) (first ts) ≡ some s → (first ts ≡ some s → Held ts s) → Held (t ∷ ts) s
+    go true q e ih = record { at = 0; holds = q; says = e }
+    go false q e ih = let h = ih e in record { at = suc (h .at); holds = (q, h .holds); says = h .says }
+
+-- where only test k gives the stop s, it is given exactly when test k is the first that holds
+pub exactly : (ts : List (Bool × Stop)) (s : Stop) (k : ℕ) → stopAt ts k ≡ some s → ((j : ℕ) → stopAt ts j ≡ some s → j ≡ k) → (first ts ≡ some s) ↔ FirstAt ts k
+exactly ts s k here only = (
+  (λ e. let h = held ts s e in subst (λ (j : ℕ). FirstAt ts j) (only (h .at) (h .says)) (h .holds)),
+  (λ h. first-at ts k h ∙ here),
+)
+
+-- ---- the refusals of a command
+
+-- which test gives each: 1, 4, 2, 3
+abbrev pub placeOf : ℕ → ℕ
+placeOf n = cond (eqb n 1) 0 (cond (eqb n 4) 1 (cond (eqb n 2) 9 10))
+
+same-number : (a n : ℕ) → some (refuse a) ≡ some (refuse n) → a ≡ n
+same-number a n e = cc
+
+module _ (rec cmd p0 p1 sent received : List ℕ) where
+  -- no other test gives it
+  only : (j n : ℕ) → stopAt (commandTests rec cmd p0 p1 sent received) j ≡ some (refuse n) → j ≡ placeOf n
+  unfolding commandTests tests
+  only zero n e = ap placeOf (same-number 1 n e)
+  only (suc zero) n e = ap placeOf (same-number 4 n e)
+  only (suc (suc zero)) n e = cc
+  only (suc (suc (suc zero))) n e = cc
+  only (suc (suc (suc (suc zero)))) n e = cc
+  only (suc (suc (suc (suc (suc zero))))) n e = cc
+  only (suc (suc (suc (suc (suc (suc zero)))))) n e = cc
+  only (suc (suc (suc (suc (suc (suc (suc zero))))))) n e = cc
+  only (suc (suc (suc (suc (suc (suc (suc (suc zero)))))))) n e = cc
+  only (suc (suc (suc (suc (suc (suc (suc (suc (suc zero))))))))) n e = ap placeOf (same-number 2 n e)
+  only (suc (suc (suc (suc (suc (suc (suc (suc (suc (suc zero)))))))))) n e = ap placeOf (same-number 3 n e)
+  only (suc (suc (suc (suc (suc (suc (suc (suc (suc (suc (suc j))))))))))) n e = cc
+
+  -- "command block empty, or shorter than its length"
+  pub refused-1 : (first (commandTests rec cmd p0 p1 sent received) ≡ some (refuse 1)) ↔ FirstAt (commandTests rec cmd p0 p1 sent received) 0
+  unfolding commandTests
+  refused-1 = exactly (commandTests rec cmd p0 p1 sent received) (refuse 1) 0 refl (λ j e. only j 1 e)
+
+  -- "record not 30 bytes or ill-formed; or, for a command, loaded and .."
+  pub refused-4 : (first (commandTests rec cmd p0 p1 sent received) ≡ some (refuse 4)) ↔ FirstAt (commandTests rec cmd p0 p1 sent received) 1
+  unfolding commandTests
+  refused-4 = exactly (commandTests rec cmd p0 p1 sent received) (refuse 4) 1 refl (λ j e. only j 4 e)
+
+  -- "data sent is shorter than the command takes"
+  pub refused-2 : (first (commandTests rec cmd p0 p1 sent received) ≡ some (refuse 2)) ↔ FirstAt (commandTests rec cmd p0 p1 sent received) 9
+  unfolding commandTests tests
+  refused-2 = exactly (commandTests rec cmd p0 p1 sent received) (refuse 2) 9 refl (λ j e. only j 2 e)
+
+  -- "receiving buffer is shorter than the command may need"
+  pub refused-3 : (first (commandTests rec cmd p0 p1 sent received) ≡ some (refuse 3)) ↔ FirstAt (commandTests rec cmd p0 p1 sent received) 10
+  unfolding commandTests tests
+  refused-3 = exactly (commandTests rec cmd p0 p1 sent received) (refuse 3) 10 refl (λ j e. only j 3 e)
+
+  -- ---- the call follows this one list
+
+  d : Drive
+  d = decodeOf rec
+
+  o : Operation
+  o = operationOf (codeOf cmd)
+
+  v : Seen
+  v = seen (operationOf (codeOf cmd)) (decodeOf rec) cmd p0 p1
+
+  step-by : (x : Option Stop) → first (tests o d cmd v sent received) ≡ x → stepOf d cmd p0 p1 sent received ≡ elim x as (λ y. Outcome) [ none ↦ acted o d cmd p0 p1 sent received v | some s ↦ stopped s d p0 p1 received ]
+  unfolding stepOf d o v
+  step-by x e = ap (λ (y : Option Stop). elim y as (λ z. Outcome) [ none ↦ acted o d cmd p0 p1 sent received v | some s ↦ stopped s d p0 p1 received ]) e
+
+  call-short : tooShort cmd ≡ true → commandCall rec cmd p0 p1 sent received ≡ result (refused 1) rec p0 p1 received
+  unfolding commandCall
+  call-short h = rw h refl
+
+  call-fault : tooShort cmd ≡ false → not (wellRecord rec && inserted d p0 p1) ≡ true → commandCall rec cmd p0 p1 sent received ≡ result (refused 4) rec p0 p1 received
+  unfolding commandCall d
+  call-fault h k = rw (h, k) refl
+
+  call-step : tooShort cmd ≡ false → not (wellRecord rec && inserted d p0 p1) ≡ false → commandCall rec cmd p0 p1 sent received ≡ written rec (stepOf d cmd p0 p1 sent received)
+  unfolding commandCall d
+  call-step h k = rw (h, k) refl
+
+  -- a refusal by number leaves every byte
+  refused-leaves : (n : ℕ) → 0 < n → written rec (stopped (refuse n) d p0 p1 received) ≡ result (refused n) rec p0 p1 received
+  unfolding stopped
+  refused-leaves n h = rw (ne-eqb n 0 (λ e. omega arith)) refl
+
+  -- where the list stops it, the call leaves what the stop leaves
+  pub call-stops : (s : Stop) → first (commandTests rec cmd p0 p1 sent received) ≡ some s → commandCall rec cmd p0 p1 sent received ≡ written rec (stopped s (decodeOf rec) p0 p1 received)
+  unfolding commandTests first d o v
+  call-stops s e = by (tooShort cmd) (not (wellRecord rec && inserted (decodeOf rec) p0 p1)) refl refl e
+    where
+      by : (a b : Bool) → tooShort cmd ≡ a → not (wellRecord rec && inserted (decodeOf rec) p0 p1) ≡ b
+          → cond a (some (refuse 1)) (cond b (some (refuse 4)) (first (tests o d cmd v sent received))) ≡ some s
+          → commandCall rec cmd p0 p1 sent received ≡ written rec (stopped s (decodeOf rec) p0 p1 received)
+      by true b ea eb q =
+          let w : refuse 1 ≡ s = cc in
+          call-short ea ∙ sym (refused-leaves 1 (omega arith)) ∙ ap (λ (x : Stop). written rec (stopped x (decodeOf rec) p0 p1 received)) w
+      by false true ea eb q =
+          let w : refuse 4 ≡ s = cc in
+          call-fault ea eb ∙ sym (refused-leaves 4 (omega arith)) ∙ ap (λ (x : Stop). written rec (stopped x (decodeOf rec) p0 p1 received)) w
+      by false false ea eb q = call-step ea eb ∙ ap (written rec) (step-by (some s) q)
+
+  -- and where no test holds, it acts
+  pub call-acts : first (commandTests rec cmd p0 p1 sent received) ≡ none → commandCall rec cmd p0 p1 sent received ≡ written rec (acted (operationOf (codeOf cmd)) (decodeOf rec) cmd p0 p1 sent received (seen (operationOf (codeOf cmd)) (decodeOf rec) cmd p0 p1))
+  unfolding commandTests first d o v
+  call-acts e = by (tooShort cmd) (not (wellRecord rec && inserted (decodeOf rec) p0 p1)) refl refl e
+    where
+      by : (a b : Bool) → tooShort cmd ≡ a → not (wellRecord rec && inserted (decodeOf rec) p0 p1) ≡ b
+          → cond a (some (refuse 1)) (cond b (some (refuse 4)) (first (tests o d cmd v sent received))) ≡ none
+          → commandCall rec cmd p0 p1 sent received ≡ written rec (acted o d cmd p0 p1 sent received v)
+      by true b ea eb q = let z : _≡_ {A = ℕ} 0 1 = cc in absurd (omega arith)
+      by false true ea eb q = let z : _≡_ {A = ℕ} 0 1 = cc in absurd (omega arith)
+      by false false ea eb q = call-step ea eb ∙ ap (written rec) (step-by none q)

@@ -1,0 +1,3 @@
+pub mod Going
+pub mod Sent
+pub mod Reading
