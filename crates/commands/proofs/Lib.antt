@@ -1,2 +1,3 @@
 pub mod Among
 pub mod Exact
+pub mod Wrong

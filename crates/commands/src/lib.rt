@@ -1,6 +1,9 @@
 // The commands: their definitions (specs/), in document 01's order and words, and the code that serves them.
+mod errors;
 mod kinds;
 
+pub use errors::bytes_asked;
+pub use errors::is_field_wrong;
 pub use kinds::counts_residue;
 pub use kinds::is_served;
 pub use kinds::needs_cartridge;
