@@ -1,3 +1,4 @@
 pub mod Among
 pub mod Exact
+pub mod Leaving
 pub mod Wrong

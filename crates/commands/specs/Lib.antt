@@ -3,3 +3,4 @@ pub mod Kinds
 pub mod Tests
 pub mod Act
 pub mod Call
+pub mod Left

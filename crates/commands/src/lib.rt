@@ -1,7 +1,15 @@
 // The commands: their definitions (specs/), in document 01's order and words, and the code that serves them.
+mod deeds;
 mod errors;
 mod kinds;
 
+pub use deeds::Left;
+pub use deeds::at;
+pub use deeds::checked;
+pub use deeds::good;
+pub use deeds::locate;
+pub use deeds::select;
+pub use deeds::target_of;
 pub use errors::bytes_asked;
 pub use errors::is_field_wrong;
 pub use kinds::counts_residue;

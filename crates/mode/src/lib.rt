@@ -7,6 +7,7 @@ mod position;
 pub use data::block_limits;
 pub use data::mode_data;
 pub use data::mode_header;
+pub use list::WHOLE;
 pub use list::is_list_length;
 pub use list::is_list_right;
 pub use list::new_length;

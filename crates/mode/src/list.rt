@@ -8,7 +8,7 @@ use words::be32_at;
 
 const HEADER: u8 = 4;
 
-const WHOLE: u8 = 12;
+pub const WHOLE: u8 = 12;
 
 // Whether a list length is 0, 4 or 12.
 pub fn is_list_length(n: u8) -> bool
