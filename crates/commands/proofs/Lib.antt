@@ -1,4 +1,5 @@
 pub mod Among
 pub mod Exact
 pub mod Leaving
+pub mod Replying
 pub mod Wrong

@@ -230,8 +230,12 @@ selecting d cmd sent =
 
 -- ---- the commands that answer with data, cut at an allocation where they have one
 
+-- "pending attention if any, else kept sense"
+abbrev pub senseAsked : Drive → List ℕ
+senseAsked d = cond (eqb (d .attention) noAttention) (d .sense) (attentionSense (d .attention))
+
 unfoldable pub replyOf : Operation → Drive → List ℕ → Seen → List ℕ
-replyOf RequestSense d cmd v = limited (allocationOf cmd) (cond (eqb (d .attention) noAttention) (d .sense) (attentionSense (d .attention)))
+replyOf RequestSense d cmd v = limited (allocationOf cmd) (senseAsked d)
 replyOf ReadBlockLimits d cmd v = blockLimits
 replyOf ModeSense d cmd v = limited (allocationOf cmd) (modeData (dbdOf cmd) (v .guarded) (d .«block_length»))
 replyOf ReadPosition d cmd v =

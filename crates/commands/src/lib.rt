@@ -2,6 +2,7 @@
 mod deeds;
 mod errors;
 mod kinds;
+mod replies;
 
 pub use deeds::Left;
 pub use deeds::at;
@@ -17,3 +18,5 @@ pub use kinds::is_served;
 pub use kinds::needs_cartridge;
 pub use kinds::passes_attention;
 pub use kinds::writes;
+pub use replies::request_sense;
+pub use replies::unattended;

@@ -9,6 +9,7 @@ pub use codec::decode;
 pub use codec::encode;
 pub use codec::is_record;
 pub use drive::Drive;
+pub use states::NO_ATTENTION;
 pub use states::fresh;
 pub use states::is_well_formed;
 pub use states::load;

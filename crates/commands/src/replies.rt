@@ -1,0 +1,44 @@
+// The commands that answer with data.
+ghost use mathlib.Core.Path.{_≡_};
+ghost use mathlib.Core.List.{[]};
+ghost use Prim.Native.Nat.{_≤_};
+ghost use lib.ListN.{length};
+ghost use Rattle.words.specs.Words.{over};
+ghost use Rattle.codes.specs.declared.operation.Operation.the-variants.{RequestSense};
+ghost use Rattle.commands.specs.Act.{senseAsked, replyOf, act};
+ghost use Rattle.commands.specs.Act.{unattended as Act·unattended};
+ghost use Rattle.commands.specs.Call.{nothing};
+ghost use Rattle.commands.specs.Left.{leftBy};
+use crate::deeds::Left;
+use crate::deeds::good;
+use record::Drive;
+
+// The drive with no attention waiting.
+pub fn unattended(d: Drive) -> Drive
+    ensures { λ r. ⌜ r ≡ Act·unattended d ⌝ }
+{
+    let mut e = d;
+    e.attention = record::NO_ATTENTION;
+    e
+}
+
+// The sense that REQUEST SENSE answers: the waiting attention's, else the kept one.
+fn sense_asked(d: Drive) -> [u8; 18]
+    ensures { λ r. ⌜ r ≡ senseAsked d ⌝ }
+{
+    if d.attention == record::NO_ATTENTION {
+        return d.sense;
+    }
+    sense::of_attention(d.attention)
+}
+
+// REQUEST SENSE, with a receiving buffer that is long enough.
+pub fn request_sense(d: Drive, cmd: &[u8], received: &mut [u8]) -> Left
+    requires { ⌜ (5 ≤ length (now cmd)) × (length (replyOf RequestSense d (now cmd) nothing) ≤ length (now received)) ⌝ }
+    ensures { λ r. ⌜ (r ≡ leftBy (act RequestSense d (now (cmd .entry)) [] nothing)) × (now (received .exit) ≡ over (now (received .entry)) 0 (replyOf RequestSense d (now (cmd .entry)) nothing)) ⌝ }
+{
+    let asked = sense_asked(d);
+    let n = codes::allocation(cmd);
+    let carried = words::copy_limited(received, &asked, n as usize);
+    good(unattended(d), carried as u32)
+}
