@@ -18,5 +18,7 @@ pub use kinds::is_served;
 pub use kinds::needs_cartridge;
 pub use kinds::passes_attention;
 pub use kinds::writes;
+pub use replies::mode_sense;
+pub use replies::read_block_limits;
 pub use replies::request_sense;
 pub use replies::unattended;

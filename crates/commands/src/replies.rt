@@ -4,11 +4,11 @@ ghost use mathlib.Core.List.{[]};
 ghost use Prim.Native.Nat.{_≤_};
 ghost use lib.ListN.{length};
 ghost use Rattle.words.specs.Words.{over};
-ghost use Rattle.codes.specs.declared.operation.Operation.the-variants.{RequestSense};
+ghost use Rattle.codes.specs.declared.operation.Operation.the-variants.{RequestSense, ReadBlockLimits, ModeSense};
 ghost use Rattle.commands.specs.Act.{senseAsked, replyOf, act};
 ghost use Rattle.commands.specs.Act.{unattended as Act·unattended};
 ghost use Rattle.commands.specs.Call.{nothing};
-ghost use Rattle.commands.specs.Left.{leftBy};
+ghost use Rattle.commands.specs.Left.{leftBy, protectedOnly};
 use crate::deeds::Left;
 use crate::deeds::good;
 use record::Drive;
@@ -41,4 +41,30 @@ pub fn request_sense(d: Drive, cmd: &[u8], received: &mut [u8]) -> Left
     let n = codes::allocation(cmd);
     let carried = words::copy_limited(received, &asked, n as usize);
     good(unattended(d), carried as u32)
+}
+
+// READ BLOCK LIMITS, with a receiving buffer that is long enough.
+pub fn read_block_limits(d: Drive, received: &mut [u8]) -> Left
+    requires { ⌜ length (replyOf ReadBlockLimits d [] nothing) ≤ length (now received) ⌝ }
+    ensures { λ r. ⌜ (r ≡ leftBy (act ReadBlockLimits d [] [] nothing)) × (now (received .exit) ≡ over (now (received .entry)) 0 (replyOf ReadBlockLimits d [] nothing)) ⌝ }
+{
+    let limits = mode::block_limits();
+    words::copy_at(received, 0, &limits);
+    good(d, 6)
+}
+
+// MODE SENSE of a partition that is protected or not, with a receiving buffer that is long enough.
+pub fn mode_sense(d: Drive, cmd: &[u8], guarded: bool, received: &mut [u8]) -> Left
+    requires { ⌜ (5 ≤ length (now cmd)) × (length (replyOf ModeSense d (now cmd) (protectedOnly guarded)) ≤ length (now received)) ⌝ }
+    ensures { λ r. ⌜ (r ≡ leftBy (act ModeSense d (now (cmd .entry)) [] (protectedOnly guarded))) × (now (received .exit) ≡ over (now (received .entry)) 0 (replyOf ModeSense d (now (cmd .entry)) (protectedOnly guarded))) ⌝ }
+{
+    let n = codes::allocation(cmd);
+    if codes::dbd(cmd) {
+        let header = mode::mode_header(guarded);
+        let carried = words::copy_limited(received, &header, n as usize);
+        return good(d, carried as u32);
+    }
+    let data = mode::mode_data(guarded, d.block_length);
+    let carried = words::copy_limited(received, &data, n as usize);
+    good(d, carried as u32)
 }

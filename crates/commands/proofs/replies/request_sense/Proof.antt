@@ -2,7 +2,7 @@
 -- Assumes nothing.
 use native.Mathlib.Omega.{arith}
 use borrow.Author.Needs.{needs}
-use Rattle.commands.proofs.Replying.{reply-small, reply-fits, reply-left, reply-laid}
+use Rattle.commands.proofs.Replying.{reply-small, reply-fits, reply-laid, sense-reply, sense-left}
 use denote.Ref.{now}
 use Rattle.commands.proofs.replies.request_sense.Statement.{statement}
 use Rattle.commands.proofs.replies.request_sense.Tie as tie
@@ -20,13 +20,13 @@ cast-copy-limited : tie.Need-cast-copy-limited
 cast-copy-limited c = search needs
 
 copy-limited-requires : tie.Need-copy-limited-requires
-copy-limited-requires c κs = reply-fits _ _ _ _ (c .before .before .before .sense-asked .ensures) (c .before .before .allocation .ensures) _ (c .before .before .before .before .before .before .pre .1)
+copy-limited-requires c κs = reply-fits _ _ _ (sense-reply (c .before .before .before .before .before .before .args .d) (now (c .before .before .before .before .before .before .args .cmd)) _ _ (c .before .before .before .sense-asked .ensures) (c .before .before .allocation .ensures)) (c .before .before .before .before .before .before .pre .1)
 
 unattended-requires : tie.Need-unattended-requires
 unattended-requires c κs = search needs
 
 cast-good : tie.Need-cast-good
-cast-good c = record { fits = reply-small (c .before .before .before .before .before .before .before .before .before .before .args .d) (now (c .before .before .before .before .before .before .before .before .before .before .args .cmd)) _ _ (c .before .before .before .before .before .before .before .sense-asked .ensures) (c .before .before .before .before .before .before .allocation .ensures) _ (c .before .before .before .copy-limited .ensures .1) (omega arith) }
+cast-good c = record { fits = reply-small (c .before .before .before .before .before .before .allocation .result) _ _ (c .before .before .before .copy-limited .ensures .1) (omega arith) }
 
 good-requires : tie.Need-good-requires
 good-requires c κs = search needs
@@ -39,7 +39,7 @@ returns c =
     let d = c .before .before .before .before .before .before .before .before .before .before .before .args .d in
     let cmd = now (c .before .before .before .before .before .before .before .before .before .before .before .args .cmd) in
     let k = c .before .before .before .before .copy-limited .ensures in
-    (reply-left d cmd _ _ (c .before .before .before .before .before .before .before .before .sense-asked .ensures) (c .before .before .before .before .before .before .before .allocation .ensures) _ (k .1) _ (c .before .unattended .ensures) _ (c .good2 .ensures), reply-laid d cmd _ _ (c .before .before .before .before .before .before .before .before .sense-asked .ensures) (c .before .before .before .before .before .before .before .allocation .ensures) _ (k .1) _ _ (k .0))
+    (sense-left d cmd _ _ (c .before .before .before .before .before .before .before .before .sense-asked .ensures) (c .before .before .before .before .before .before .before .allocation .ensures) _ (k .1) _ (c .before .unattended .ensures) _ (c .good2 .ensures), reply-laid _ _ _ _ (sense-reply d cmd _ _ (c .before .before .before .before .before .before .before .before .sense-asked .ensures) (c .before .before .before .before .before .before .before .allocation .ensures)) (k .0))
 
 pub request-sense-spec : {M : Type 1} → statement M
 request-sense-spec =
