@@ -63,4 +63,14 @@ static inline uint8_t *sparse(size_t length)
     return bytes == MAP_FAILED ? NULL : bytes;
 }
 
+/* A service over one slice refuses this length by its number, and leaves the bytes. */
+static inline void refuses_length(uint64_t (*service)(uint8_t *, size_t), size_t length, int number, const char *what)
+{
+    uint8_t *before = patterned(length), *lent = lend(before, length);
+    expect_equal(service(lent, length), REFUSED(number), "%s of %zu bytes", what, length);
+    expect_bytes(lent, before, length, "bytes after a refused %s of %zu", what, length);
+    take_back(lent, length);
+    free(before);
+}
+
 #endif

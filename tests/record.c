@@ -34,15 +34,6 @@ static const struct slice partitions[KINDS] = {
 
 /* ---- fresh */
 
-static void fresh_refuses(size_t length)
-{
-    uint8_t *before = patterned(length), *record = lend(before, length);
-    expect_equal(stormtoggle_fresh(record, length), REFUSED(4), "fresh of %zu bytes", length);
-    expect_bytes(record, before, length, "bytes after a refused fresh of %zu", length);
-    take_back(record, length);
-    free(before);
-}
-
 static void fresh_makes(const uint8_t *before, const char *what)
 {
     uint8_t *record = lend(before, RECORD);
@@ -55,7 +46,7 @@ static void fresh_by_length(void)
 {
     uint8_t *pages = sealed(zeros, 31);
     for (size_t i = 0; i < COUNT(lengths_of_no_record); i++)
-        fresh_refuses(lengths_of_no_record[i]);
+        refuses_length(stormtoggle_fresh, lengths_of_no_record[i], 4, "fresh");
     expect_equal(stormtoggle_fresh(NULL, 0), REFUSED(4), "fresh of nothing");
     expect_in_child(stormtoggle_fresh(pages, 31) == REFUSED(4), "fresh of 31 bytes on read-only pages");
     expect_in_child(stormtoggle_fresh(pages + 2, 29) == REFUSED(4), "fresh of 29 bytes on read-only pages");

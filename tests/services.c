@@ -6,15 +6,6 @@
 
 /* ---- blank */
 
-static void blank_refuses(size_t length)
-{
-    uint8_t *before = patterned(length), *image = lend(before, length);
-    expect_equal(stormtoggle_blank(image, length), REFUSED(7), "blank of %zu bytes", length);
-    expect_bytes(image, before, length, "bytes after a refused blank of %zu", length);
-    take_back(image, length);
-    free(before);
-}
-
 static void blank_makes(size_t length)
 {
     uint8_t *want = patterned(length), *image = lend(want, length);
@@ -33,7 +24,7 @@ static void blank_by_length(void)
     static const size_t refused[] = {0, 1, 15, 16, 32, 62, 63};
     static const size_t made[] = {64, 65, 66, 67, 128, 255, 256, 4096, 65535, 65536, 65537, 1000003};
     for (size_t i = 0; i < COUNT(refused); i++)
-        blank_refuses(refused[i]);
+        refuses_length(stormtoggle_blank, refused[i], 7, "blank");
     for (size_t i = 0; i < COUNT(made); i++)
         blank_makes(made[i]);
 }

@@ -6,7 +6,16 @@ use mathlib.Core.List.{List, [], _∷_}
 use lib.Dec.{eqb}
 use Rattle.answers.specs.declared.Answer.{Answer}
 
--- the refusals of 01's table that stand today, by name
+-- the refusals of 01's table, by name
+abbrev pub commandShort : ℕ
+commandShort = 1
+
+abbrev pub sentShort : ℕ
+sentShort = 2
+
+abbrev pub receivedShort : ℕ
+receivedShort = 3
+
 abbrev pub recordFault : ℕ
 recordFault = 4
 

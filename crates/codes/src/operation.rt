@@ -5,6 +5,37 @@ ghost use Rattle.codes.specs.Codes.{lengthOf, numberOf, rowOf, operation
 use crate::lengths::LENGTHS;
 use crate::rows::ROWS;
 
+// The number of each command, its operation code; for what is not served, one that is no byte.
+pub const TEST_UNIT_READY: u16 = 0x00;
+
+pub const REWIND: u16 = 0x01;
+
+pub const REQUEST_SENSE: u16 = 0x03;
+
+pub const READ_BLOCK_LIMITS: u16 = 0x05;
+
+pub const READ: u16 = 0x08;
+
+pub const WRITE: u16 = 0x0a;
+
+pub const WRITE_FILEMARKS: u16 = 0x10;
+
+pub const SPACE: u16 = 0x11;
+
+pub const MODE_SELECT: u16 = 0x15;
+
+pub const ERASE: u16 = 0x19;
+
+pub const MODE_SENSE: u16 = 0x1a;
+
+pub const LOAD_UNLOAD: u16 = 0x1b;
+
+pub const LOCATE: u16 = 0x2b;
+
+pub const READ_POSITION: u16 = 0x34;
+
+pub const NOT_SERVED: u16 = 0x100;
+
 pub enum Operation {
     TestUnitReady,
     Rewind,
@@ -69,25 +100,25 @@ pub fn operation_of(op: u8) -> Operation
     operation_at(row_of(op))
 }
 
-// The number of a command: its operation code; for what is not served, a number that is no byte.
+// The number of a command.
 pub fn number_of(o: Operation) -> u16
     ensures { λ r. ⌜ r ≡ numberOf o ⌝ }
 {
     match o {
-        Operation::TestUnitReady => 0x00,
-        Operation::Rewind => 0x01,
-        Operation::RequestSense => 0x03,
-        Operation::ReadBlockLimits => 0x05,
-        Operation::Read => 0x08,
-        Operation::Write => 0x0a,
-        Operation::WriteFilemarks => 0x10,
-        Operation::Space => 0x11,
-        Operation::ModeSelect => 0x15,
-        Operation::Erase => 0x19,
-        Operation::ModeSense => 0x1a,
-        Operation::LoadUnload => 0x1b,
-        Operation::Locate => 0x2b,
-        Operation::ReadPosition => 0x34,
-        Operation::NotServed => 0x100,
+        Operation::TestUnitReady => TEST_UNIT_READY,
+        Operation::Rewind => REWIND,
+        Operation::RequestSense => REQUEST_SENSE,
+        Operation::ReadBlockLimits => READ_BLOCK_LIMITS,
+        Operation::Read => READ,
+        Operation::Write => WRITE,
+        Operation::WriteFilemarks => WRITE_FILEMARKS,
+        Operation::Space => SPACE,
+        Operation::ModeSelect => MODE_SELECT,
+        Operation::Erase => ERASE,
+        Operation::ModeSense => MODE_SENSE,
+        Operation::LoadUnload => LOAD_UNLOAD,
+        Operation::Locate => LOCATE,
+        Operation::ReadPosition => READ_POSITION,
+        Operation::NotServed => NOT_SERVED,
     }
 }

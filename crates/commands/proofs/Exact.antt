@@ -2,7 +2,7 @@
 -- other than a refusal, likewise, is the first test that holds.
 -- Assumes nothing.
 use Prim.Native.Nat.{ℕ, zero, suc, _<_}
-use mathlib.Core.Path.{_≡_, refl, sym, ap, _∙_, subst}
+use mathlib.Core.Path.{_≡_, refl, ap, _∙_, subst}
 use mathlib.Core.Logic.{_↔_}
 use mathlib.Core.Bool.{Bool, true, false, cond, not, _&&_}
 use mathlib.Core.Option.{Option, none, some}
@@ -11,14 +11,11 @@ use native.Mathlib.Omega.{arith}
 use borrow.Author.Tests.{ne-eqb}
 use lib.Dec.{eqb}
 use Rattle.answers.specs.Answers.{refused}
-use Rattle.record.specs.declared.drive.Drive.{Drive}
 use Rattle.record.specs.Record.{decodeOf, wellRecord}
-use Rattle.codes.specs.declared.operation.Operation.{Operation}
 use Rattle.codes.specs.Codes.{codeOf, tooShort, operationOf}
 use Rattle.commands.specs.Stop.{Stop, refuse, first}
-use Rattle.commands.specs.Act.{Seen}
 use Rattle.commands.specs.Tests.{tests}
-use Rattle.commands.specs.Call.{Outcome, result, seen, inserted, stopped, acted, stepOf, written, commandCall, commandTests}
+use Rattle.commands.specs.Call.{decided, result, seen, inserted, stopped, acted, stepOf, written, commandCall, commandTests}
 
 -- ---- lists of tests
 
@@ -107,62 +104,24 @@ module _ (rec cmd p0 p1 sent received : List ℕ) where
   unfolding commandTests tests
   refused-3 = exactly (commandTests rec cmd p0 p1 sent received) (refuse 3) 10 refl (λ j e. only j 3 e)
 
-  -- ---- the call follows this one list
-
-  d : Drive
-  d = decodeOf rec
-
-  o : Operation
-  o = operationOf (codeOf cmd)
-
-  v : Seen
-  v = seen (operationOf (codeOf cmd)) (decodeOf rec) cmd p0 p1
-
-  step-by : (x : Option Stop) → first (tests o d cmd v sent received) ≡ x → stepOf d cmd p0 p1 sent received ≡ elim x as (λ y. Outcome) [ none ↦ acted o d cmd p0 p1 sent received v | some s ↦ stopped s d p0 p1 received ]
-  unfolding stepOf d o v
-  step-by x e = ap (λ (y : Option Stop). elim y as (λ z. Outcome) [ none ↦ acted o d cmd p0 p1 sent received v | some s ↦ stopped s d p0 p1 received ]) e
-
-  call-short : tooShort cmd ≡ true → commandCall rec cmd p0 p1 sent received ≡ result (refused 1) rec p0 p1 received
-  unfolding commandCall
-  call-short h = rw h refl
-
-  call-fault : tooShort cmd ≡ false → not (wellRecord rec && inserted d p0 p1) ≡ true → commandCall rec cmd p0 p1 sent received ≡ result (refused 4) rec p0 p1 received
-  unfolding commandCall d
-  call-fault h k = rw (h, k) refl
-
-  call-step : tooShort cmd ≡ false → not (wellRecord rec && inserted d p0 p1) ≡ false → commandCall rec cmd p0 p1 sent received ≡ written rec (stepOf d cmd p0 p1 sent received)
-  unfolding commandCall d
-  call-step h k = rw (h, k) refl
+  -- ---- what the call leaves
 
   -- a refusal by number leaves every byte
-  refused-leaves : (n : ℕ) → 0 < n → written rec (stopped (refuse n) d p0 p1 received) ≡ result (refused n) rec p0 p1 received
+  pub refused-leaves : (n : ℕ) → 0 < n → written rec (stopped (refuse n) (decodeOf rec) p0 p1 received) ≡ result (refused n) rec p0 p1 received
   unfolding stopped
   refused-leaves n h = rw (ne-eqb n 0 (λ e. omega arith)) refl
 
   -- where the list stops it, the call leaves what the stop leaves
   pub call-stops : (s : Stop) → first (commandTests rec cmd p0 p1 sent received) ≡ some s → commandCall rec cmd p0 p1 sent received ≡ written rec (stopped s (decodeOf rec) p0 p1 received)
-  unfolding commandTests first d o v
-  call-stops s e = by (tooShort cmd) (not (wellRecord rec && inserted (decodeOf rec) p0 p1)) refl refl e
-    where
-      by : (a b : Bool) → tooShort cmd ≡ a → not (wellRecord rec && inserted (decodeOf rec) p0 p1) ≡ b
-          → cond a (some (refuse 1)) (cond b (some (refuse 4)) (first (tests o d cmd v sent received))) ≡ some s
-          → commandCall rec cmd p0 p1 sent received ≡ written rec (stopped s (decodeOf rec) p0 p1 received)
-      by true b ea eb q =
-          let w : refuse 1 ≡ s = cc in
-          call-short ea ∙ sym (refused-leaves 1 (omega arith)) ∙ ap (λ (x : Stop). written rec (stopped x (decodeOf rec) p0 p1 received)) w
-      by false true ea eb q =
-          let w : refuse 4 ≡ s = cc in
-          call-fault ea eb ∙ sym (refused-leaves 4 (omega arith)) ∙ ap (λ (x : Stop). written rec (stopped x (decodeOf rec) p0 p1 received)) w
-      by false false ea eb q = call-step ea eb ∙ ap (written rec) (step-by (some s) q)
+  unfolding commandCall decided
+  call-stops s e = rw e refl
 
   -- and where no test holds, it acts
   pub call-acts : first (commandTests rec cmd p0 p1 sent received) ≡ none → commandCall rec cmd p0 p1 sent received ≡ written rec (acted (operationOf (codeOf cmd)) (decodeOf rec) cmd p0 p1 sent received (seen (operationOf (codeOf cmd)) (decodeOf rec) cmd p0 p1))
-  unfolding commandTests first d o v
-  call-acts e = by (tooShort cmd) (not (wellRecord rec && inserted (decodeOf rec) p0 p1)) refl refl e
-    where
-      by : (a b : Bool) → tooShort cmd ≡ a → not (wellRecord rec && inserted (decodeOf rec) p0 p1) ≡ b
-          → cond a (some (refuse 1)) (cond b (some (refuse 4)) (first (tests o d cmd v sent received))) ≡ none
-          → commandCall rec cmd p0 p1 sent received ≡ written rec (acted o d cmd p0 p1 sent received v)
-      by true b ea eb q = let z : _≡_ {A = ℕ} 0 1 = cc in absurd (omega arith)
-      by false true ea eb q = let z : _≡_ {A = ℕ} 0 1 = cc in absurd (omega arith)
-      by false false ea eb q = call-step ea eb ∙ ap (written rec) (step-by none q)
+  unfolding commandCall decided
+  call-acts e = rw e refl
+
+  -- past 1 and 4 it is the step by value
+  pub call-steps : tooShort cmd ≡ false → not (wellRecord rec && inserted (decodeOf rec) p0 p1) ≡ false → commandCall rec cmd p0 p1 sent received ≡ written rec (stepOf (decodeOf rec) cmd p0 p1 sent received)
+  unfolding commandCall commandTests first stepOf
+  call-steps h k = rw (h, k) refl

@@ -79,9 +79,12 @@ unattended d = record { loaded = d .loaded; partitions = d .partitions; current 
 abbrev pub filemarkMet : ℤ → Sense
 filemarkMet residue = told true true false false noSense 0x00 0x01 residue
 
--- end of data: 8/00/05
+-- end of data: 8/00/05, by a command that counts or not
+abbrev pub endTold : Bool → Seen → ℤ → Sense
+endTold counts v residue = told counts false (eomAtEnd v) false blankCheck 0x00 0x05 residue
+
 abbrev pub endMet : Seen → ℤ → Sense
-endMet v residue = told true false (eomAtEnd v) false blankCheck 0x00 0x05 residue
+endMet v residue = endTold true v residue
 
 -- a block of another length: ILI, 0/00/00
 abbrev pub oddMet : ℤ → Sense
@@ -199,11 +202,20 @@ abbrev pub moved : Drive → Seen → ℤ → M.Move → Deed
 moved d v k m = record { drive = at d (m .to); tells = spaceTells v k m; received = []; carried = 0 }
 
 -- code 0 blocks, code 1 filemarks, code 3 "count ignored, to end of data, GOOD"
+abbrev pub overBlocks : ℕ
+overBlocks = 0
+
+abbrev pub overFilemarks : ℕ
+overFilemarks = 1
+
+abbrev pub toEnd : ℕ
+toEnd = 3
+
 unfoldable pub spacing : Drive → List ℕ → Seen → Deed
 spacing d cmd v =
     let k = spaceCountOf cmd in
-    cond (eqb (spaceCodeOf cmd) 3) (good (at d (length (v .objects))))
-    (moved d v k (M.space (cond (eqb (spaceCodeOf cmd) 0) M.blocks M.filemarks) k (d .position) (v .objects)))
+    cond (eqb (spaceCodeOf cmd) toEnd) (good (at d (length (v .objects))))
+    (moved d v k (M.space (cond (eqb (spaceCodeOf cmd) overBlocks) M.blocks M.filemarks) k (d .position) (v .objects)))
 
 -- ---- LOCATE
 
@@ -216,7 +228,7 @@ unfoldable pub locating : Drive → List ℕ → Seen → Deed
 locating d cmd v =
     let n = length (v .objects) in
     cond (leb (objectOf cmd) n) (good (atPartition d (targetOf d cmd) (objectOf cmd)))
-    (checked (atPartition d (targetOf d cmd) n) (told false false (eomAtEnd v) false blankCheck 0x00 0x05 (pos 0)))
+    (checked (atPartition d (targetOf d cmd) n) (endTold false v (pos 0)))
 
 -- ---- MODE SELECT
 
@@ -230,6 +242,13 @@ selecting d cmd sent =
 
 -- ---- the commands that answer with data, cut at an allocation where they have one
 
+-- the forms of READ POSITION
+abbrev pub shortForm : ℕ
+shortForm = 0x00
+
+abbrev pub longForm : ℕ
+longForm = 0x06
+
 -- "pending attention if any, else kept sense"
 abbrev pub senseAsked : Drive → List ℕ
 senseAsked d = cond (eqb (d .attention) noAttention) (d .sense) (attentionSense (d .attention))
@@ -240,7 +259,7 @@ replyOf ReadBlockLimits d cmd v = blockLimits
 replyOf ModeSense d cmd v = limited (allocationOf cmd) (modeData (dbdOf cmd) (v .guarded) (d .«block_length»))
 replyOf ReadPosition d cmd v =
     let z = zoneAt v (d .position) in
-    cond (eqb (formOf cmd) 0x00) (shortPosition (d .current) (d .position) z) (longPosition (d .current) (d .position) z (filemarksIn (take (d .position) (v .objects))))
+    cond (eqb (formOf cmd) shortForm) (shortPosition (d .current) (d .position) z) (longPosition (d .current) (d .position) z (filemarksIn (take (d .position) (v .objects))))
 replyOf TestUnitReady d cmd v = []
 replyOf Rewind d cmd v = []
 replyOf Read d cmd v = []

@@ -7,7 +7,7 @@ use mathlib.Core.List.{List, [], _∷_}
 use lib.Dec.{eqb, leb}
 use Rattle.words.specs.Words.{over}
 use Rattle.answers.specs.declared.Answer.{Answer}
-use Rattle.answers.specs.Answers.{recordFault, checkCondition, refused}
+use Rattle.answers.specs.Answers.{commandShort, recordFault, checkCondition, refused}
 use Rattle.image.specs.Image.{count, protected, sound, objects}
 use Rattle.image.specs.Changes.{occurs, cleared}
 use Rattle.sense.specs.declared.Sense.{Sense}
@@ -100,12 +100,18 @@ acted o d cmd p0 p1 sent received v =
     (cond (eqb k 1) (changed o d cmd sent v p1) p1)
     (over received 0 (e .received))
 
+-- the first test that holds decides; where none does, the command acts
+unfoldable pub decided : Option Stop → Drive → List ℕ → List ℕ → List ℕ → List ℕ → List ℕ → Outcome
+decided (some s) d cmd p0 p1 sent received = stopped s d p0 p1 received
+decided none d cmd p0 p1 sent received =
+    let o = operationOf (codeOf cmd) in
+    acted o d cmd p0 p1 sent received (seen o d cmd p0 p1)
+
 -- a command on a drive that number 4 finds no fault with
 unfoldable pub stepOf : Drive → List ℕ → List ℕ → List ℕ → List ℕ → List ℕ → Outcome
 stepOf d cmd p0 p1 sent received =
     let o = operationOf (codeOf cmd) in
-    let v = seen o d cmd p0 p1 in
-    elim (first (tests o d cmd v sent received)) [ none ↦ acted o d cmd p0 p1 sent received v | some s ↦ stopped s d p0 p1 received ]
+    decided (first (tests o d cmd (seen o d cmd p0 p1) sent received)) d cmd p0 p1 sent received
 
 -- ---- and on bytes
 
@@ -123,18 +129,14 @@ result a rec p0 p1 r = record { answer = a; rec = rec; part0 = p0; part1 = p1; r
 abbrev pub written : List ℕ → Outcome → Result
 written rec o = result (o .answer) (cond (eqb (o .answer .refusal) 0) (encodeOf (o .drive)) rec) (o .part0) (o .part1) (o .received)
 
--- "Command order: 1; 4; .."
-unfoldable pub commandCall : List ℕ → List ℕ → List ℕ → List ℕ → List ℕ → List ℕ → Result
-commandCall rec cmd p0 p1 sent received =
-    cond (tooShort cmd) (result (refused 1) rec p0 p1 received)
-    (cond (not (wellRecord rec && inserted (decodeOf rec) p0 p1)) (result (refused recordFault) rec p0 p1 received)
-    (written rec (stepOf (decodeOf rec) cmd p0 p1 sent received)))
-
--- the whole order as one list: 1, 4, and the tests of a command
+-- "Command order: 1; 4; ..": the whole order as one list
 unfoldable pub commandTests : List ℕ → List ℕ → List ℕ → List ℕ → List ℕ → List ℕ → List (Bool × Stop)
 commandTests rec cmd p0 p1 sent received =
     let d = decodeOf rec in
     let o = operationOf (codeOf cmd) in
-    (tooShort cmd, refuse 1)
+    (tooShort cmd, refuse commandShort)
     ∷ (not (wellRecord rec && inserted d p0 p1), refuse recordFault)
     ∷ tests o d cmd (seen o d cmd p0 p1) sent received
+
+unfoldable pub commandCall : List ℕ → List ℕ → List ℕ → List ℕ → List ℕ → List ℕ → Result
+commandCall rec cmd p0 p1 sent received = written rec (decided (first (commandTests rec cmd p0 p1 sent received)) (decodeOf rec) cmd p0 p1 sent received)

@@ -7,6 +7,7 @@ use mathlib.Core.List.{List, [], _∷_}
 use lib.Dec.{eqb, leb, ltb}
 use lib.ListN.{length}
 use Rattle.objects.specs.Object.{largestBlock}
+use Rattle.answers.specs.Answers.{sentShort, receivedShort}
 use Rattle.sense.specs.Sense.{notReady, illegalRequest, dataProtect}
 use Rattle.record.specs.declared.drive.Drive.{Drive}
 use Rattle.record.specs.Record.{noAttention}
@@ -17,7 +18,7 @@ use Rattle.codes.specs.Fields.{fixedOf, siliOf, transferOf, spaceCodeOf, change
 use Rattle.commands.specs.Stop.{Stop, refuse, attend, fault}
 use Rattle.commands.specs.Kinds.{among, passesAttention, isServed, needsCartridge, writes}
 use Rattle.mode.specs.Mode.{listLengthKnown}
-use Rattle.commands.specs.Act.{Seen, replyOf}
+use Rattle.commands.specs.Act.{Seen, overBlocks, overFilemarks, toEnd, shortForm, longForm, replyOf}
 
 -- "length × block length (FIXED) or length bytes"
 unfoldable pub bytesAsked : Drive → List ℕ → ℕ
@@ -30,13 +31,13 @@ fieldError Read d cmd = fixedOf cmd && (siliOf cmd || eqb (d .«block_length») 
 -- "FIXED .. as READ; variable length above 65,536"
 fieldError Write d cmd = cond (fixedOf cmd) (eqb (d .«block_length») 0) (ltb largestBlock (transferOf cmd))
 -- "Other codes than 0, 1, 3"
-fieldError Space d cmd = not (eqb (spaceCodeOf cmd) 0 || eqb (spaceCodeOf cmd) 1 || eqb (spaceCodeOf cmd) 3)
+fieldError Space d cmd = not (eqb (spaceCodeOf cmd) overBlocks || eqb (spaceCodeOf cmd) overFilemarks || eqb (spaceCodeOf cmd) toEnd)
 -- "PF must be 1"
 fieldError ModeSelect d cmd = not (pfOf cmd)
 -- "page 00h or 3Fh, else field error"
 fieldError ModeSense d cmd = not (eqb (pageOf cmd) 0x00 || eqb (pageOf cmd) 0x3F)
 -- "other forms field error"
-fieldError ReadPosition d cmd = not (eqb (formOf cmd) 0x00 || eqb (formOf cmd) 0x06)
+fieldError ReadPosition d cmd = not (eqb (formOf cmd) shortForm || eqb (formOf cmd) longForm)
 fieldError TestUnitReady d cmd = false
 fieldError Rewind d cmd = false
 fieldError RequestSense d cmd = false
@@ -55,16 +56,20 @@ taken o d cmd = cond (among (Write ∷ []) o) (bytesAsked d cmd) (cond (among (M
 unfoldable pub needed : Operation → Drive → List ℕ → Seen → ℕ
 needed o d cmd v = cond (among (Read ∷ []) o) (bytesAsked d cmd) (length (replyOf o d cmd v))
 
+-- "fields (5/24/00)"
+abbrev pub fieldFault : Stop
+fieldFault = fault illegalRequest 0x24 0x00
+
 unfoldable pub tests : Operation → Drive → List ℕ → Seen → List ℕ → List ℕ → List (Bool × Stop)
 tests o d cmd v sent received =
     (not (eqb (d .attention) noAttention) && not (passesAttention o), attend)
     ∷ (not (isServed o), fault illegalRequest 0x20 0x00)
-    ∷ (not (masksHold cmd) || fieldError o d cmd, fault illegalRequest 0x24 0x00)
+    ∷ (not (masksHold cmd) || fieldError o d cmd, fieldFault)
     -- "else 5/1A/00, tested just after the fields"
     ∷ (among (ModeSelect ∷ []) o && not (listLengthKnown (allocationOf cmd)), fault illegalRequest 0x1A 0x00)
     ∷ (needsCartridge o && eqb (d .loaded) 0, fault notReady 0x3A 0x00)
-    ∷ (among (Locate ∷ []) o && changesPartition cmd && leb (d .partitions) (partitionOf cmd), fault illegalRequest 0x24 0x00)
+    ∷ (among (Locate ∷ []) o && changesPartition cmd && leb (d .partitions) (partitionOf cmd), fieldFault)
     ∷ (writes o && v .guarded, fault dataProtect 0x27 0x00)
-    ∷ (ltb (length sent) (taken o d cmd), refuse 2)
-    ∷ (ltb (length received) (needed o d cmd v), refuse 3)
+    ∷ (ltb (length sent) (taken o d cmd), refuse sentShort)
+    ∷ (ltb (length received) (needed o d cmd v), refuse receivedShort)
     ∷ []

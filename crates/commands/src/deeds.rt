@@ -1,4 +1,4 @@
-// What stands of a command when it has acted, by value; and the commands that touch no partition.
+// What stands of a command when it has acted, by value; and LOCATE and MODE SELECT, which change no partition and return no data.
 ghost use mathlib.Core.Path.{_≡_};
 ghost use mathlib.Core.Bool.{true};
 ghost use Prim.Native.Nat.{_≤_};

@@ -2,27 +2,17 @@
 ghost use mathlib.Core.Path.{_≡_};
 ghost use Rattle.commands.specs.Kinds.{passesAttention, isServed, needsCartridge, countsResidue};
 ghost use Rattle.commands.specs.Kinds.{writes as Kinds·writes};
+use codes::ERASE;
+use codes::MODE_SELECT;
+use codes::MODE_SENSE;
+use codes::NOT_SERVED;
 use codes::Operation;
-
-const REQUEST_SENSE: u16 = 0x03;
-
-const READ_BLOCK_LIMITS: u16 = 0x05;
-
-const READ: u16 = 0x08;
-
-const WRITE: u16 = 0x0a;
-
-const WRITE_FILEMARKS: u16 = 0x10;
-
-const SPACE: u16 = 0x11;
-
-const MODE_SELECT: u16 = 0x15;
-
-const ERASE: u16 = 0x19;
-
-const MODE_SENSE: u16 = 0x1a;
-
-const NOT_SERVED: u16 = 0x100;
+use codes::READ;
+use codes::READ_BLOCK_LIMITS;
+use codes::REQUEST_SENSE;
+use codes::SPACE;
+use codes::WRITE;
+use codes::WRITE_FILEMARKS;
 
 // Whether the attention lets it pass.
 pub fn passes_attention(o: Operation) -> bool
