@@ -4,7 +4,7 @@ use mathlib.Core.Bool.{Bool, true, false, cond, not}
 use mathlib.Core.List.{List, [], _∷_}
 use lib.Dec.{eqb}
 use Rattle.codes.specs.declared.operation.Operation.{Operation}
-use Rattle.codes.specs.declared.operation.Operation.the-variants.{RequestSense, ReadBlockLimits, Read, Write, WriteFilemarks, Space, ModeSelect, Erase, ModeSense, NotServed}
+use Rattle.codes.specs.declared.operation.Operation.the-variants.{RequestSense, ReadBlockLimits, Write, WriteFilemarks, ModeSelect, Erase, ModeSense, NotServed}
 use Rattle.codes.specs.Codes.{numberOf}
 
 -- o is one of these
@@ -27,7 +27,3 @@ needsCartridge o = not (among (RequestSense ∷ ReadBlockLimits ∷ ModeSelect �
 -- "protection of the current partition for WRITE, WRITE FILEMARKS and ERASE at any count"
 abbrev pub writes : Operation → Bool
 writes o = among (Write ∷ WriteFilemarks ∷ Erase ∷ []) o
-
--- "VALID is set for READ, WRITE, WRITE FILEMARKS and SPACE with .."
-abbrev pub countsResidue : Operation → Bool
-countsResidue o = among (Read ∷ Write ∷ WriteFilemarks ∷ Space ∷ []) o

@@ -1,16 +1,14 @@
 // What kind of command an operation is, by its number.
 ghost use mathlib.Core.Path.{_≡_};
-ghost use Rattle.commands.specs.Kinds.{passesAttention, isServed, needsCartridge, countsResidue};
+ghost use Rattle.commands.specs.Kinds.{passesAttention, isServed, needsCartridge};
 ghost use Rattle.commands.specs.Kinds.{writes as Kinds·writes};
 use codes::ERASE;
 use codes::MODE_SELECT;
 use codes::MODE_SENSE;
 use codes::NOT_SERVED;
 use codes::Operation;
-use codes::READ;
 use codes::READ_BLOCK_LIMITS;
 use codes::REQUEST_SENSE;
-use codes::SPACE;
 use codes::WRITE;
 use codes::WRITE_FILEMARKS;
 
@@ -59,21 +57,4 @@ pub fn writes(o: Operation) -> bool
         return true;
     }
     n == ERASE
-}
-
-// Whether it reports a residue.
-pub fn counts_residue(o: Operation) -> bool
-    ensures { λ r. ⌜ r ≡ countsResidue o ⌝ }
-{
-    let n = codes::number_of(o);
-    if n == READ {
-        return true;
-    }
-    if n == WRITE {
-        return true;
-    }
-    if n == WRITE_FILEMARKS {
-        return true;
-    }
-    n == SPACE
 }

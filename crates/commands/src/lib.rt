@@ -13,7 +13,6 @@ pub use deeds::select;
 pub use deeds::target_of;
 pub use errors::bytes_asked;
 pub use errors::is_field_wrong;
-pub use kinds::counts_residue;
 pub use kinds::is_served;
 pub use kinds::needs_cartridge;
 pub use kinds::passes_attention;
