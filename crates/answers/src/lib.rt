@@ -5,6 +5,12 @@ ghost use Rattle.answers.specs.Answers.{packed, packedPart};
 ghost use Rattle.answers.specs.Answers.{refused as Answers·refused, done as Answers·done};
 
 // The refusals of document 01's table.
+pub const COMMAND_SHORT: u8 = 1;
+
+pub const SENT_SHORT: u8 = 2;
+
+pub const RECEIVED_SHORT: u8 = 3;
+
 pub const RECORD_FAULT: u8 = 4;
 
 pub const ALREADY_LOADED: u8 = 5;

@@ -19,19 +19,19 @@ use Rattle.transfer.specs.Transfer.{marksOf, fitting, putFrom}
 
 -- ---- one object offered
 
-fitting-more : (l n e : ℕ) (o : Object) (os : List Object) → fitsIn (roomOf l n e) (length (dataOf o)) ≡ true → fitting l n e (o ∷ os) ≡ o ∷ fitting l (suc n) (e + length (dataOf o)) os
+pub fitting-more : (l n e : ℕ) (o : Object) (os : List Object) → fitsIn (roomOf l n e) (length (dataOf o)) ≡ true → fitting l n e (o ∷ os) ≡ o ∷ fitting l (suc n) (e + length (dataOf o)) os
 unfolding fitting
 fitting-more l n e o os h = rw (h, fitting) refl
 
-fitting-none : (l n e : ℕ) (o : Object) (os : List Object) → fitsIn (roomOf l n e) (length (dataOf o)) ≡ false → fitting l n e (o ∷ os) ≡ []
+pub fitting-none : (l n e : ℕ) (o : Object) (os : List Object) → fitsIn (roomOf l n e) (length (dataOf o)) ≡ false → fitting l n e (o ∷ os) ≡ []
 unfolding fitting
 fitting-none l n e o os h = rw (h, fitting) refl
 
-fits-is : (t : List ℕ) (n m l : ℕ) (v : Bool) → length t ≡ l → fits t n m ≡ v → fitsIn (roomOf l n (endAt t n)) m ≡ v
+pub fits-is : (t : List ℕ) (n m l : ℕ) (v : Bool) → length t ≡ l → fits t n m ≡ v → fitsIn (roomOf l n (endAt t n)) m ≡ v
 unfolding fits room
 fits-is t n m l v e h = rw (← e) h
 
-put-one : (n : ℕ) (o : Object) (fs : List Object) (t : List ℕ) → occurs (putFrom n (o ∷ fs)) t ≡ occurs (putFrom (suc n) fs) (occur (put n o) t)
+pub put-one : (n : ℕ) (o : Object) (fs : List Object) (t : List ℕ) → occurs (putFrom n (o ∷ fs)) t ≡ occurs (putFrom (suc n) fs) (occur (put n o) t)
 unfolding occurs putFrom
 put-one n o fs t = refl
 

@@ -1,3 +1,4 @@
 pub mod Going
+pub mod Down
 pub mod Sent
 pub mod Reading

@@ -1,0 +1,3 @@
+pub mod Running
+pub mod Meeting
+pub mod Positioned

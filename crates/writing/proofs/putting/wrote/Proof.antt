@@ -1,0 +1,62 @@
+-- Not all went down, all and in the zone, or all.
+-- Assumes nothing.
+use borrow.Author.Needs.{needs}
+use native.Mathlib.Omega.{arith}
+use Rattle.image.proofs.Facts.{sound-parts, entries-in}
+use Rattle.transfer.proofs.Reading.{few}
+use Rattle.writing.proofs.Wrote.{told-short, told-zone, told-good}
+use Rattle.writing.proofs.putting.wrote.Statement.{statement}
+use Rattle.writing.proofs.putting.wrote.Tie as tie
+
+add-there : tie.Need-add-there
+add-there c = let w = few _ (c .before .before .pre .0) in let h = c .before .before .pre .1 in record { fits = omega arith }
+
+at-requires : tie.Need-at-requires
+at-requires c κs = search needs
+
+told-requires : tie.Need-told-requires
+told-requires c κs = search needs
+
+checked-requires : tie.Need-checked-requires
+checked-requires c κs = search needs
+
+returns : tie.Need-returns
+returns c = told-short _ _ _ _ _ _ _ _ (c .before .before .before .at .ensures) (c .before .before .if1 .taken) _ (c .before .told .ensures) (c .checked .ensures)
+
+cast-in-zone : tie.Need-cast-in-zone
+cast-in-zone c = search needs
+
+in-zone-requires : tie.Need-in-zone-requires
+in-zone-requires c κs = let w = sound-parts _ (c .before .before .before .before .pre .0) in (entries-in _ w _ (c .before .before .before .before .pre .1), w .most)
+
+told-requires-2 : tie.Need-told-requires-2
+told-requires-2 c κs = search needs
+
+checked-requires-2 : tie.Need-checked-requires-2
+checked-requires-2 c κs = search needs
+
+returns-2 : tie.Need-returns-2
+returns-2 c = told-zone _ _ _ _ _ _ _ _ (c .before .before .before .before .before .at .ensures) (c .before .before .before .before .if1 .left) _ (c .before .before .before .in-zone .ensures) (c .before .before .if2 .taken) _ (c .before .told2 .ensures) (c .checked2 .ensures)
+
+good-requires : tie.Need-good-requires
+good-requires c κs = search needs
+
+returns-3 : tie.Need-returns-3
+returns-3 c = told-good _ _ _ _ _ _ _ _ (c .before .before .before .before .at .ensures) (c .before .before .before .if1 .left) _ (c .before .before .in-zone .ensures) (c .before .if2 .left) (c .good2 .ensures)
+
+pub wrote-spec : {M : Type 1} → statement M
+wrote-spec =
+    tie.close
+    (tie.spec
+    add-there
+    at-requires
+    told-requires
+    checked-requires
+    returns
+    cast-in-zone
+    in-zone-requires
+    told-requires-2
+    checked-requires-2
+    returns-2
+    good-requires
+    returns-3)
