@@ -1,0 +1,6 @@
+pub mod Passed
+pub mod Acts
+pub mod Alike
+pub mod Asked
+pub mod Looked
+pub mod Steps

@@ -1,0 +1,7 @@
+// One command on a drive by value: the tests in order, and then its act on the partition that it looks at.
+mod acting;
+mod partitions;
+mod stepping;
+
+pub use stepping::Stepped;
+pub use stepping::step;

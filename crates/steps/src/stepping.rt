@@ -1,0 +1,135 @@
+// A command on a drive that number 4 finds no fault with: the first test that holds ends it, else it acts.
+ghost use mathlib.Core.Path.{_≡_};
+ghost use mathlib.Core.Bool.{true, false};
+ghost use mathlib.Core.Option.{none};
+ghost use Rattle.answers.specs.Answers.{refused};
+ghost use Rattle.record.specs.Record.{wellFormed, withSense};
+ghost use Rattle.codes.specs.Codes.{codeOf, tooShort, operationOf};
+ghost use Rattle.commands.specs.Stop.{first};
+ghost use Rattle.commands.specs.Tests.{tests};
+ghost use Rattle.commands.specs.Call.{checkAnswer, inserted, seen, acted, stepOf, looksAt};
+ghost use Rattle.commands.specs.Left.{protectedOnly};
+ghost use Rattle.steps.specs.Stepped.{outcomeOf, guardedNow, answerOf};
+use crate::acting::act_apart;
+use crate::acting::act_on;
+use crate::partitions::is_protected;
+use answers::Answer;
+use codes::Operation;
+use commands::Left;
+use record::Drive;
+use stops::Stop;
+
+// The drive after a command, and the answer.
+pub struct Stepped {
+    pub drive: Drive,
+    pub answer: Answer,
+}
+
+// A refusal by number: nothing changes.
+fn refuses(d: Drive, number: u8) -> Stepped
+    ensures { λ r. ⌜ (r .drive ≡ d) × (r .answer ≡ refused number) ⌝ }
+{
+    Stepped {
+        drive: d,
+        answer: answers::refused(number),
+    }
+}
+
+// CHECK CONDITION, nothing carried, with this sense.
+fn checks(d: Drive, sense: [u8; 18]) -> Stepped
+    ensures { λ r. ⌜ (r .drive ≡ withSense d sense) × (r .answer ≡ checkAnswer) ⌝ }
+{
+    Stepped {
+        drive: record::with_sense(d, sense),
+        answer: Answer {
+            refusal: 0,
+            status: answers::CHECK_CONDITION,
+            carried: 0,
+        },
+    }
+}
+
+// What an act leaves.
+fn answers_with(l: Left) -> Stepped
+    ensures { λ r. ⌜ (r .drive ≡ l .drive) × (r .answer ≡ answerOf l) ⌝ }
+{
+    let drive = l.drive;
+    Stepped {
+        drive: drive,
+        answer: Answer {
+            refusal: 0,
+            status: l.status,
+            carried: l.carried,
+        },
+    }
+}
+
+// The partition that a command looks at: LOCATE's target, else the current one.
+fn looks_at(o: Operation, d: Drive, cmd: &[u8]) -> u8
+    requires { ⌜ (tooShort (now cmd) ≡ false) × (o ≡ operationOf (codeOf (now cmd))) ⌝ }
+    ensures { λ r. ⌜ r ≡ looksAt o d (now (cmd .entry)) ⌝ }
+{
+    if codes::number_of(o) == codes::LOCATE {
+        return commands::target_of(d, cmd);
+    }
+    d.current
+}
+
+// Whether the current partition is protected; not so while unloaded.
+fn is_guarded(d: Drive, p0: &[u8], p1: &[u8]) -> bool
+    requires { ⌜ (wellFormed d ≡ true) × (inserted d (now p0) (now p1) ≡ true) ⌝ }
+    ensures { λ r. ⌜ r ≡ guardedNow d (now (p0 .entry)) (now (p1 .entry)) ⌝ }
+{
+    if d.loaded == 0 {
+        return false;
+    }
+    if d.current == 1 {
+        return is_protected(p1);
+    }
+    is_protected(p0)
+}
+
+// The act of a command that no test has stopped.
+fn acts(
+    o: Operation,
+    d: Drive,
+    cmd: &[u8],
+    p0: &mut [u8],
+    p1: &mut [u8],
+    sent: &[u8],
+    received: &mut [u8],
+) -> Stepped
+    requires { ⌜ (tooShort (now cmd) ≡ false) × (o ≡ operationOf (codeOf (now cmd))) × (wellFormed d ≡ true) × (inserted d (now p0) (now p1) ≡ true) × (first (tests o d (now cmd) (seen o d (now cmd) (now p0) (now p1)) (now sent) (now received)) ≡ none) ⌝ }
+    ensures { λ r. ⌜ outcomeOf r (now (p0 .exit)) (now (p1 .exit)) (now (received .exit)) ≡ acted o d (now (cmd .entry)) (now (p0 .entry)) (now (p1 .entry)) (now (sent .entry)) (now (received .entry)) (seen o d (now (cmd .entry)) (now (p0 .entry)) (now (p1 .entry))) ⌝ }
+{
+    if d.loaded == 0 {
+        return answers_with(act_apart(o, d, cmd, false, sent, received));
+    }
+    if looks_at(o, d, cmd) == 1 {
+        return answers_with(act_on(o, d, cmd, p1, sent, received));
+    }
+    answers_with(act_on(o, d, cmd, p0, sent, received))
+}
+
+// One command: the tests in order, and then its act.
+pub fn step(
+    d: Drive,
+    cmd: &[u8],
+    p0: &mut [u8],
+    p1: &mut [u8],
+    sent: &[u8],
+    received: &mut [u8],
+) -> Stepped
+    requires { ⌜ (tooShort (now cmd) ≡ false) × (wellFormed d ≡ true) × (inserted d (now p0) (now p1) ≡ true) ⌝ }
+    ensures { λ r. ⌜ outcomeOf r (now (p0 .exit)) (now (p1 .exit)) (now (received .exit)) ≡ stepOf d (now (cmd .entry)) (now (p0 .entry)) (now (p1 .entry)) (now (sent .entry)) (now (received .entry)) ⌝ }
+{
+    let o = codes::operation_of(cmd[0]);
+    let guarded = is_guarded(d, p0, p1);
+    let stop = stops::stop_of(o, d, cmd, guarded, sent, received);
+    match stop {
+        Stop::Refuse(number) => refuses(d, number),
+        Stop::Attend => checks(commands::unattended(d), sense::of_attention(d.attention)),
+        Stop::Fault(key, asc, ascq) => checks(d, sense::plainly(key, asc, ascq)),
+        Stop::Pass => acts(o, d, cmd, p0, p1, sent, received),
+    }
+}

@@ -1,0 +1,4 @@
+pub mod Long
+pub mod Rows
+pub mod Counts
+pub mod Order

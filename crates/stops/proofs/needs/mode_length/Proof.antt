@@ -1,0 +1,18 @@
+-- With DBD the header alone, else with its descriptor: one law for each return.
+-- Assumes nothing.
+use borrow.Author.Needs.{needs}
+use Rattle.stops.proofs.Counts.{picks, drops}
+use Rattle.stops.proofs.needs.mode_length.Statement.{statement}
+use Rattle.stops.proofs.needs.mode_length.Tie as tie
+
+dbd-requires : tie.Need-dbd-requires
+dbd-requires c κs = search needs
+
+returns : tie.Need-returns
+returns c = picks _ _ (c .before .dbd .ensures) _ _ (c .if1 .taken)
+
+returns-2 : tie.Need-returns-2
+returns-2 c = drops _ _ (c .before .dbd .ensures) _ _ (c .if1 .left)
+
+pub mode-length-spec : {M : Type 1} → statement M
+mode-length-spec = tie.close (tie.spec dbd-requires returns returns-2)
