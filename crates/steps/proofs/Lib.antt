@@ -4,3 +4,4 @@ pub mod Alike
 pub mod Asked
 pub mod Looked
 pub mod Steps
+pub mod Inserted

@@ -3,5 +3,6 @@ mod acting;
 mod partitions;
 mod stepping;
 
+pub use partitions::is_inserted;
 pub use stepping::Stepped;
 pub use stepping::step;

@@ -4,6 +4,7 @@ use Prim.Native.Nat.{ℕ}
 use mathlib.Core.List.{List}
 use Rattle.answers.specs.Answers.{Left, packed, packedPart}
 use Rattle.image.specs.Services.{viewOf}
+use Rattle.commands.specs.Call.{Result}
 
 -- a service that may alter one slice: the number returned, and the slice
 abbrev pub numbered : Left → ℕ × List ℕ
@@ -12,3 +13,17 @@ numbered o = (packed (o .answer), o .lent)
 -- the view: start and length of the part, 0 if empty
 abbrev pub viewNumber : List ℕ → List ℕ → ℕ → ℕ → ℕ
 viewNumber p0 p1 k i = let p = viewOf p0 p1 k i in packedPart (p .start) (p .len)
+
+-- the command: the number returned, and the four slices that it may alter
+pub record Returned : Type 0 where
+  pub number : ℕ
+  pub rec : List ℕ
+  pub part0 : List ℕ
+  pub part1 : List ℕ
+  pub received : List ℕ
+
+abbrev pub returned : ℕ → List ℕ → List ℕ → List ℕ → List ℕ → Returned
+returned n rec p0 p1 r = record { number = n; rec = rec; part0 = p0; part1 = p1; received = r }
+
+abbrev pub numberedResult : Result → Returned
+numberedResult o = returned (packed (o .answer)) (o .rec) (o .part0) (o .part1) (o .received)

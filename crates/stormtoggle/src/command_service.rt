@@ -1,0 +1,50 @@
+// The command: number 1, number 4, and then the step on the drive that the record stands for.
+ghost use mathlib.Core.Path.{_≡_};
+ghost use Rattle.commands.specs.Call.{result, commandCall};
+ghost use Rattle.stormtoggle.specs.Calls.{returned, numberedResult};
+use answers::Answer;
+
+// A SCSI command on the drive and the cartridge lent with it.
+pub fn command(
+    rec: &mut [u8],
+    cmd: &[u8],
+    p0: &mut [u8],
+    p1: &mut [u8],
+    sent: &[u8],
+    received: &mut [u8],
+) -> Answer
+    ensures { λ r. ⌜ result r (now (rec .exit)) (now (p0 .exit)) (now (p1 .exit)) (now (received .exit)) ≡ commandCall (now (rec .entry)) (now (cmd .entry)) (now (p0 .entry)) (now (p1 .entry)) (now (sent .entry)) (now (received .entry)) ⌝ }
+{
+    if codes::is_too_short(cmd) {
+        return answers::refused(answers::COMMAND_SHORT);
+    }
+    if !record::is_record(rec) {
+        return answers::refused(answers::RECORD_FAULT);
+    }
+    let d = record::decode(rec);
+    if !steps::is_inserted(d, p0, p1) {
+        return answers::refused(answers::RECORD_FAULT);
+    }
+    let s = steps::step(d, cmd, p0, p1, sent, received);
+    let drive = s.drive;
+    let answer = s.answer;
+    if answer.refusal != 0 {
+        return answer;
+    }
+    record::encode(drive, rec);
+    answer
+}
+
+#[no_mangle]
+pub extern "C" fn stormtoggle_command(
+    rec: &mut [u8],
+    cmd: &[u8],
+    p0: &mut [u8],
+    p1: &mut [u8],
+    sent: &[u8],
+    received: &mut [u8],
+) -> u64
+    ensures { λ r. ⌜ returned r (now (rec .exit)) (now (p0 .exit)) (now (p1 .exit)) (now (received .exit)) ≡ numberedResult (commandCall (now (rec .entry)) (now (cmd .entry)) (now (p0 .entry)) (now (p1 .entry)) (now (sent .entry)) (now (received .entry))) ⌝ }
+{
+    answers::pack(command(rec, cmd, p0, p1, sent, received))
+}
