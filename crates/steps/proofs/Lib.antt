@@ -5,3 +5,4 @@ pub mod Asked
 pub mod Looked
 pub mod Steps
 pub mod Inserted
+pub mod Called

@@ -58,7 +58,7 @@ none-needed : (t : Bool) (n : ℕ) → t && eqb n 0 ≡ false → n ≡ 0 → t 
 none-needed true n e h = rw h at e
 none-needed false n e h = refl
 
-outcomes : {a a′ : Answer} {d d′ : Drive} {p p′ q q′ r r′ : List ℕ} → a ≡ a′ → d ≡ d′ → p ≡ p′ → q ≡ q′ → r ≡ r′ → outcome a d p q r ≡ outcome a′ d′ p′ q′ r′
+pub outcomes : {a a′ : Answer} {d d′ : Drive} {p p′ q q′ r r′ : List ℕ} → a ≡ a′ → d ≡ d′ → p ≡ p′ → q ≡ q′ → r ≡ r′ → outcome a d p q r ≡ outcome a′ d′ p′ q′ r′
 outcomes {a} {a′} {d} {d′} {p} {p′} {q} {q′} {r} {r′} ea ed ep eq er = λ i. outcome (ea i) (ed i) (ep i) (eq i) (er i)
 
 either-way : (t : Bool) (p q : List ℕ) → p ≡ q → p ≡ cond t p q

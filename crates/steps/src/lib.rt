@@ -3,6 +3,5 @@ mod acting;
 mod partitions;
 mod stepping;
 
-pub use partitions::is_inserted;
 pub use stepping::Stepped;
-pub use stepping::step;
+pub use stepping::serve_by_value;

@@ -9,9 +9,10 @@ ghost use Rattle.commands.specs.Stop.{first};
 ghost use Rattle.commands.specs.Tests.{tests};
 ghost use Rattle.commands.specs.Call.{checkAnswer, inserted, seen, acted, stepOf, looksAt};
 ghost use Rattle.commands.specs.Left.{protectedOnly};
-ghost use Rattle.steps.specs.Stepped.{outcomeOf, guardedNow, answerOf};
+ghost use Rattle.steps.specs.Stepped.{outcomeOf, guardedNow, answerOf, driveCall};
 use crate::acting::act_apart;
 use crate::acting::act_on;
+use crate::partitions::is_inserted;
 use crate::partitions::is_protected;
 use answers::Answer;
 use codes::Operation;
@@ -112,7 +113,7 @@ fn acts(
 }
 
 // One command: the tests in order, and then its act.
-pub fn step(
+fn step(
     d: Drive,
     cmd: &[u8],
     p0: &mut [u8],
@@ -132,4 +133,27 @@ pub fn step(
         Stop::Fault(key, asc, ascq) => checks(d, sense::plainly(key, asc, ascq)),
         Stop::Pass => acts(o, d, cmd, p0, p1, sent, received),
     }
+}
+
+// The whole command on any drive: number 1, number 4, and then the step.
+pub fn serve_by_value(
+    d: Drive,
+    cmd: &[u8],
+    p0: &mut [u8],
+    p1: &mut [u8],
+    sent: &[u8],
+    received: &mut [u8],
+) -> Stepped
+    ensures { λ r. ⌜ outcomeOf r (now (p0 .exit)) (now (p1 .exit)) (now (received .exit)) ≡ driveCall d (now (cmd .entry)) (now (p0 .entry)) (now (p1 .entry)) (now (sent .entry)) (now (received .entry)) ⌝ }
+{
+    if codes::is_too_short(cmd) {
+        return refuses(d, answers::COMMAND_SHORT);
+    }
+    if !record::is_well_formed(d) {
+        return refuses(d, answers::RECORD_FAULT);
+    }
+    if !is_inserted(d, p0, p1) {
+        return refuses(d, answers::RECORD_FAULT);
+    }
+    step(d, cmd, p0, p1, sent, received)
 }

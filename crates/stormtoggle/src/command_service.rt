@@ -1,4 +1,4 @@
-// The command: number 1, number 4, and then the step on the drive that the record stands for.
+// The command: number 1, number 4 for the record's length, and then the service, to which the drive that the record stands for is lent.
 ghost use mathlib.Core.Path.{_≡_};
 ghost use Rattle.commands.specs.Call.{result, commandCall};
 ghost use Rattle.stormtoggle.specs.Calls.{returned, numberedResult};
@@ -18,14 +18,11 @@ pub fn command(
     if codes::is_too_short(cmd) {
         return answers::refused(answers::COMMAND_SHORT);
     }
-    if !record::is_record(rec) {
+    if rec.len() != record::RECORD_LENGTH {
         return answers::refused(answers::RECORD_FAULT);
     }
     let d = record::decode(rec);
-    if !steps::is_inserted(d, p0, p1) {
-        return answers::refused(answers::RECORD_FAULT);
-    }
-    let s = steps::step(d, cmd, p0, p1, sent, received);
+    let s = lending::serve_lent(d, cmd, p0, p1, sent, received);
     let drive = s.drive;
     let answer = s.answer;
     if answer.refusal != 0 {
