@@ -24,7 +24,11 @@ extern "C" {
 #define STORMTOGGLE_CARRIED(answer) ((uint32_t)(answer))
 
 /* Bits 32 to 34: the refusal, 0 for none.
- *   4  the record is not 30 bytes, or ill-formed
+ *   1  the command block is empty, or shorter than its operation code says
+ *   2  fewer bytes are sent than the command takes
+ *   3  the receiving buffer is shorter than the command may need
+ *   4  the record is not 30 bytes, or ill-formed; for a command, also if it is loaded and a partition lent is unsound,
+ *      the number of partitions is not the record's, or the position is above N
  *   5  a cartridge is loaded already
  *   6  an image is unsound
  *   7  an image's length is outside 64 to 1,073,741,824
@@ -75,6 +79,14 @@ uint64_t stormtoggle_view(const uint8_t *p0, size_t p0_len, const uint8_t *p1, s
 
 /* A view's high 32 bits: where the block starts, in bytes from the start of the partition's slice. */
 #define STORMTOGGLE_VIEW_START(view) ((uint32_t)((uint64_t)(view) >> 32))
+
+/* Carries out one SCSI command block; bytes behind its length are ignored. The partitions are those of the mount, and
+ * are not looked at while nothing is loaded. Data goes from sent to the current partition, or into received, whose
+ * bytes past those carried stay. Status 02h says that the record's kept sense tells why; GOOD leaves the empty sense.
+ * Refusals 1, then 4, and, once the command's other tests have passed, 2 or 3. */
+uint64_t stormtoggle_command(uint8_t *record, size_t record_len, const uint8_t *command, size_t command_len,
+                             uint8_t *p0, size_t p0_len, uint8_t *p1, size_t p1_len, const uint8_t *sent,
+                             size_t sent_len, uint8_t *received, size_t received_len);
 
 #ifdef __cplusplus
 }

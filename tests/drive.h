@@ -1,0 +1,294 @@
+/* drive.h: one command on a drive in plain C: what is lent, what must be left, and the call that is held to it. */
+#ifndef DRIVE_H
+#define DRIVE_H
+
+#include "lend.h"
+#include "record.h"
+#include "stormtoggle.h"
+
+/* ---- the cartridges */
+
+/* Objects are words: bK is a block of K bytes, f a filemark, fK is K of them. */
+enum cartridge { NONE, E, GUARDED, BLANK, BLANK_65, TEN, FULL, MIXED, BIG, UNSOUND };
+
+/* Free bytes are not 0, so that a byte that is zeroed or moved shows; E alone is the document's, byte by byte. */
+static const struct tape {
+    size_t length;
+    uint32_t flags;
+    uint8_t free;
+    const char *objects;
+} tapes[] = {
+    [NONE] = {0, 0, 0x00, ""},
+    [E] = {64, 0, 0x00, "b3 f"},
+    [GUARDED] = {64, 1, 0x00, "b3 f"},
+    [BLANK] = {64, 0, 0xee, ""},
+    [BLANK_65] = {65, 0, 0xee, ""},
+    [TEN] = {64, 0, 0xee, "b10"},
+    [FULL] = {64, 0, 0xee, "b44"},
+    [MIXED] = {96, 0, 0xee, "b3 f b3 b3 b5 f b3"},
+    [BIG] = {131136, 0, 0xee, "b65536"},
+    [UNSOUND] = {64, 2, 0x00, "b3 f"},
+};
+
+static inline size_t end_at(const uint8_t *image, size_t length, size_t number)
+{
+    return number == 0 ? 0 : get32(image + length - TRAILER - 4 * number) & ~FILEMARK;
+}
+
+/* Puts objects from a number on; blocks take the source's bytes one after the other, or bytes by their own number. */
+static inline void put_objects(uint8_t *image, size_t length, size_t number, const char *words, const uint8_t *source)
+{
+    size_t end = end_at(image, length, number);
+    for (const char *word = words; *word != '\0'; word += strspn(word, " ")) {
+        size_t count = strtoul(word + 1, NULL, 10);
+        if (*word == 'b') {
+            for (size_t i = 0; i < count; i++)
+                image[end + i] = source != NULL ? *source++ : (uint8_t)(16 * number + i + 1);
+            end += count;
+            set_entry(image, length, number++, (uint32_t)end);
+        } else {
+            for (size_t i = 0; i < (count == 0 ? 1 : count); i++)
+                set_entry(image, length, number++, FILEMARK | (uint32_t)end);
+        }
+        word += strcspn(word, " ");
+    }
+    lay_trailer(image, length, number, get_field(image, length, FLAGS));
+}
+
+/* ---- a case */
+
+struct bytes {
+    size_t length;
+    uint8_t at[36];
+};
+#define BYTES(...) {sizeof((uint8_t[]){__VA_ARGS__}), {__VA_ARGS__}}
+
+/* What CHECK CONDITION tells: byte 0 of the sense (0 stands for GOOD, and the empty sense), byte 2 and so on. */
+struct told {
+    uint8_t first, flags_and_key, asc, ascq;
+    uint32_t information;
+};
+#define PLAIN(key, asc, ascq) {0x70, key, asc, ascq, 0}
+#define RESIDUE(flags_and_key, asc, ascq, information) {0xf0, flags_and_key, asc, ascq, information}
+enum { FILEMARK_MET = 0x80, EOM = 0x40, ILI = 0x20, BLANK_CHECK = 0x08, OVERFLOWED = 0x0d };
+
+enum erasure { NOT_ERASED, CUT, CUT_AND_ZEROED };
+
+struct edge {
+    /* what is lent */
+    const char *what;
+    enum cartridge p0;
+    struct bytes command;
+    struct drive before;
+    enum cartridge p1;
+    size_t sent, room; /* how many bytes of a pattern are sent; the receiving buffer's length */
+    struct bytes list; /* the bytes sent, where a pattern will not do */
+    int cut;           /* bytes that the record lacks of thirty */
+    /* what must be left; with a refusal, all as it was */
+    unsigned refusal;
+    struct drive after; /* its sense is what is told */
+    struct told told;
+    uint32_t carried;  /* from the bytes sent; what is received counts by itself */
+    struct bytes data; /* bytes received, from the first on */
+    size_t reads;      /* the same, where they are what the partition holds from the position on */
+    const char *puts;  /* objects put from the position on, of the bytes sent */
+    enum erasure erased;
+};
+
+/* No command may leave this sense: it is neither empty nor any that a drive tells. */
+#define OLD_SENSE {0xf0, 0x5a, 0x25, 0xde, 0xad, 0xbe, 0xef, 0x0b, 1, 2, 3, 4, 0x24, 0x7f, 5, 6, 7, 8}
+#define LOADED(attention, position, block_length) {1, 1, 0, attention, position, block_length, OLD_SENSE}
+#define AT(position) LOADED(0x00, position, 0)
+#define SET(block_length, position) LOADED(0x00, position, block_length)
+#define TWO(current, position) {1, 2, current, 0x00, position, 0, OLD_SENSE}
+#define BARE(attention, block_length) {0, 0, 0, attention, 0, block_length, OLD_SENSE}
+
+/* ---- command blocks */
+
+enum {
+    TEST_UNIT_READY = 0x00, REWIND = 0x01, REQUEST_SENSE = 0x03, READ_BLOCK_LIMITS = 0x05, READ = 0x08, WRITE = 0x0a,
+    WRITE_FILEMARKS = 0x10, SPACE = 0x11, INQUIRY = 0x12, MODE_SELECT = 0x15, ERASE = 0x19, MODE_SENSE = 0x1a,
+    LOAD_UNLOAD = 0x1b
+};
+
+/* Bits of byte 1, and what SPACE counts. */
+enum { IMMED = 0x01, FIXED = 0x01, SILI = 0x02, LONG = 0x01, ERASE_IMMED = 0x02, CP = 0x02, DBD = 0x08, PF = 0x10 };
+enum { BLOCKS = 0, FILEMARKS = 1, END_OF_DATA = 3 };
+
+#define BYTE(number, shift) ((uint8_t)((uint32_t)(number) >> (shift)))
+#define SIX(code, byte_1, number) {6, {code, byte_1, BYTE(number, 16), BYTE(number, 8), BYTE(number, 0), 0}}
+#define PAGE(byte_1, page, allocation) {6, {MODE_SENSE, byte_1, page, 0, allocation, 0}}
+#define LOCATE(byte_1, object, partition) \
+    {10, {0x2b, byte_1, 0, BYTE(object, 24), BYTE(object, 16), BYTE(object, 8), BYTE(object, 0), 0, partition, 0}}
+#define READ_POSITION(form) {10, {0x34, form}}
+
+/* ---- the call */
+
+enum span { THE_RECORD, THE_COMMAND, PARTITION_0, PARTITION_1, THE_SENT, THE_RECEIVED, SPANS };
+static const char *const span_names[SPANS] = {"record", "command", "partition 0", "partition 1", "sent", "received"};
+
+/* The slices of a call, each as it is lent and as it must be left, and the whole answer. */
+struct call {
+    size_t length[SPANS];
+    uint8_t *before[SPANS], *after[SPANS];
+    uint64_t answer;
+};
+
+static unsigned long cases_run;
+
+/* Makes a slice of both states, each filled with the same byte. */
+static inline void make_span(struct call *call, enum span span, size_t length, uint8_t fill)
+{
+    call->length[span] = length;
+    call->before[span] = malloc(length + 1);
+    call->after[span] = malloc(length + 1);
+    if (call->before[span] == NULL || call->after[span] == NULL)
+        abort();
+    memset(call->before[span], fill, length);
+    memset(call->after[span], fill, length);
+}
+
+static inline void make_equal(struct call *call, enum span span, const uint8_t *bytes)
+{
+    memcpy(call->before[span], bytes, call->length[span]);
+    memcpy(call->after[span], bytes, call->length[span]);
+}
+
+static inline void make_tape(struct call *call, enum span span, enum cartridge cartridge)
+{
+    const struct tape *tape = &tapes[cartridge];
+    make_span(call, span, tape->length, tape->free);
+    if (tape->length == 0)
+        return;
+    lay_trailer(call->before[span], tape->length, 0, tape->flags);
+    put_objects(call->before[span], tape->length, 0, tape->objects, NULL);
+    memcpy(call->after[span], call->before[span], tape->length);
+}
+
+/* The thirty bytes, with what is told as the kept sense. */
+static inline void lay_told(uint8_t *record, const struct drive *drive, const struct told *told)
+{
+    struct drive left = *drive;
+    memcpy(left.sense, (uint8_t[SENSE])EMPTY_SENSE, SENSE);
+    if (told->first != 0) {
+        left.sense[0] = told->first;
+        left.sense[2] = told->flags_and_key;
+        put32(left.sense + 3, told->information);
+        left.sense[12] = told->asc;
+        left.sense[13] = told->ascq;
+    }
+    lay_drive(record, &left);
+}
+
+/* The slices as they are lent; what is left is the same until something is laid over it. */
+static inline void make_lent(struct call *call, const struct edge *edge)
+{
+    uint8_t record[RECORD + 8] = {0}, *pattern = patterned(edge->sent);
+    int listed = edge->list.length > 0;
+    lay_drive(record, &edge->before);
+    make_span(call, THE_RECORD, (size_t)(RECORD - edge->cut), 0);
+    make_equal(call, THE_RECORD, record);
+    make_span(call, THE_COMMAND, edge->command.length, 0);
+    make_equal(call, THE_COMMAND, edge->command.at);
+    make_tape(call, PARTITION_0, edge->p0);
+    make_tape(call, PARTITION_1, edge->p1);
+    make_span(call, THE_SENT, listed ? edge->list.length : edge->sent, 0);
+    make_equal(call, THE_SENT, listed ? edge->list.at : pattern);
+    make_span(call, THE_RECEIVED, edge->room, 0xa7);
+    free(pattern);
+}
+
+/* What the command makes of the current partition. */
+static inline void change_tape(struct call *call, const struct edge *edge, enum span span)
+{
+    size_t length = call->length[span], from = edge->before.position, end, directory;
+    uint8_t *image = call->after[span];
+    if (edge->puts != NULL)
+        put_objects(image, length, from, edge->puts, call->before[THE_SENT]);
+    if (edge->erased == NOT_ERASED)
+        return;
+    end = end_at(image, length, from);
+    lay_trailer(image, length, from, get_field(image, length, FLAGS));
+    directory = get_field(image, length, DIRECTORY);
+    if (edge->erased == CUT_AND_ZEROED)
+        memset(image + end, 0, directory - end);
+}
+
+static inline struct call call_of(const struct edge *edge)
+{
+    enum span current = edge->before.current == 1 ? PARTITION_1 : PARTITION_0;
+    struct call call;
+    make_lent(&call, edge);
+    call.answer = REFUSED(edge->refusal);
+    if (edge->refusal != 0)
+        return call;
+    call.answer = (uint64_t)(edge->told.first != 0) << 35 | (edge->carried + edge->data.length + edge->reads);
+    lay_told(call.after[THE_RECORD], &edge->after, &edge->told);
+    memcpy(call.after[THE_RECEIVED], edge->data.at, edge->data.length);
+    if (edge->reads > 0)
+        memcpy(call.after[THE_RECEIVED],
+               call.before[current] + end_at(call.before[current], call.length[current], edge->before.position),
+               edge->reads);
+    change_tape(&call, edge, current);
+    return call;
+}
+
+static inline uint64_t answer_of(uint8_t *const lent[SPANS], const size_t length[SPANS])
+{
+    return stormtoggle_command(lent[0], length[0], lent[1], length[1], lent[2], length[2], lent[3], length[3], lent[4],
+                               length[4], lent[5], length[5]);
+}
+
+/* Every slice between canaries; an empty one is NULL if asked for. */
+static inline void hold_to(const struct call *call, int empty_is_null, const char *what)
+{
+    uint8_t *rooms[SPANS], *lent[SPANS];
+    for (int span = 0; span < SPANS; span++) {
+        rooms[span] = lend(call->before[span], call->length[span]);
+        lent[span] = empty_is_null && call->length[span] == 0 ? NULL : rooms[span];
+    }
+    expect_equal(answer_of(lent, call->length), call->answer, "answer, %s", what);
+    for (int span = 0; span < SPANS; span++) {
+        expect_bytes(rooms[span], call->after[span], call->length[span], "%s, %s", span_names[span], what);
+        take_back(rooms[span], call->length[span]);
+    }
+}
+
+/* A partition whose bytes stay gets no store: both lie on pages that cannot be written, unless they are changed. */
+static inline void hold_read_only(const struct call *call, const char *what)
+{
+    uint8_t *lent[SPANS];
+    for (int span = 0; span < SPANS; span++) {
+        size_t length = call->length[span];
+        int is_partition = span == PARTITION_0 || span == PARTITION_1;
+        int stays = length > 0 && memcmp(call->before[span], call->after[span], length) == 0;
+        lent[span] = is_partition && stays ? sealed(call->before[span], length) : call->before[span];
+    }
+    expect_in_child(answer_of(lent, call->length) == call->answer, "on read-only partitions, %s", what);
+}
+
+/* A partition that is changed must be sound again, or the case itself is wrong. */
+static inline void hold_sound(const struct call *call, const char *what)
+{
+    for (int span = PARTITION_0; span <= PARTITION_1; span++)
+        if (memcmp(call->before[span], call->after[span], call->length[span]) != 0)
+            expect(sound(call->after[span], call->length[span]), "the case, %s of %s", span_names[span], what);
+}
+
+static inline void run(const struct edge *edges, size_t count)
+{
+    for (const struct edge *edge = edges; edge < edges + count; edge++) {
+        struct call call = call_of(edge);
+        hold_sound(&call, edge->what);
+        hold_to(&call, 0, edge->what);
+        hold_to(&call, 1, edge->what);
+        hold_read_only(&call, edge->what);
+        for (int span = 0; span < SPANS; span++) {
+            free(call.before[span]);
+            free(call.after[span]);
+        }
+        cases_run++;
+    }
+}
+
+#endif
