@@ -1,0 +1,71 @@
+-- Each promise determines the whole outcome: two that satisfy it, for the same inputs, have the same answer, and leave every lent slice the same.
+-- Assumes nothing.
+use Prim.Native.Nat.{ℕ}
+use mathlib.Core.Path.{_≡_, sym, ap, _∙_}
+use mathlib.Core.Bool.{Bool}
+use mathlib.Core.List.{List}
+use Rattle.answers.specs.declared.Answer.{Answer}
+use Rattle.answers.specs.Answers.{Left, left}
+use Rattle.image.specs.Services.{blankCall, protectCall, viewOf, shown, placed}
+use Rattle.cartridge.specs.Mount.{freshCall, mountCall}
+use Rattle.commands.specs.Call.{Result, result, commandCall}
+use Rattle.stormtoggle.specs.Calls.{Returned, numbered, numberedResult, viewNumber}
+use Rattle.stormtoggle.specs.Views.{chosen, chosenPlace}
+
+-- ---- the services in Rattle
+
+-- of a service that may alter one slice
+left-same : (o : Left) (a b : Answer) (s t : List ℕ) → left a s ≡ o → left b t ≡ o → (a ≡ b) × (s ≡ t)
+left-same o a b s t e f = let p = e ∙ sym f in (ap (λ (x : Left). x .answer) p, ap (λ (x : Left). x .lent) p)
+
+pub fresh-determined : (rec : List ℕ) (a b : Answer) (s t : List ℕ) → left a s ≡ freshCall rec → left b t ≡ freshCall rec → (a ≡ b) × (s ≡ t)
+fresh-determined rec = left-same (freshCall rec)
+
+pub blank-determined : (image : List ℕ) (a b : Answer) (s t : List ℕ) → left a s ≡ blankCall image → left b t ≡ blankCall image → (a ≡ b) × (s ≡ t)
+blank-determined image = left-same (blankCall image)
+
+pub mount-determined : (rec p0 p1 : List ℕ) (a b : Answer) (s t : List ℕ) → left a s ≡ mountCall rec p0 p1 → left b t ≡ mountCall rec p0 p1 → (a ≡ b) × (s ≡ t)
+mount-determined rec p0 p1 = left-same (mountCall rec p0 p1)
+
+pub protect-determined : (on : Bool) (image : List ℕ) (a b : Answer) (s t : List ℕ) → left a s ≡ protectCall on image → left b t ≡ protectCall on image → (a ≡ b) × (s ≡ t)
+protect-determined on image = left-same (protectCall on image)
+
+-- the view: the part's bytes, and its place in memory; it alters no slice
+pub view-determined : (p0 p1 : List ℕ) (q0 q1 : ℕ × ℕ) (k i : ℕ) (s t : List ℕ) (q r : ℕ × ℕ)
+    → (s ≡ shown (chosen p0 p1 k) (viewOf p0 p1 k i)) × (q ≡ placed (chosenPlace q0 q1 k) (viewOf p0 p1 k i))
+    → (t ≡ shown (chosen p0 p1 k) (viewOf p0 p1 k i)) × (r ≡ placed (chosenPlace q0 q1 k) (viewOf p0 p1 k i))
+    → (s ≡ t) × (q ≡ r)
+view-determined p0 p1 q0 q1 k i s t q r e f = (e .0 ∙ sym (f .0), e .1 ∙ sym (f .1))
+
+-- the command: answer, record, both partitions and the receiving buffer
+pub record Same (a b : Answer) (rec rec′ p0 p0′ p1 p1′ c c′ : List ℕ) : Type 0 where
+  pub answer : a ≡ b
+  pub rec-same : rec ≡ rec′
+  pub part0 : p0 ≡ p0′
+  pub part1 : p1 ≡ p1′
+  pub received : c ≡ c′
+
+pub command-determined : (rec cmd p0 p1 sent received : List ℕ) (a b : Answer) (r r′ s s′ t t′ c c′ : List ℕ)
+    → result a r s t c ≡ commandCall rec cmd p0 p1 sent received
+    → result b r′ s′ t′ c′ ≡ commandCall rec cmd p0 p1 sent received
+    → Same a b r r′ s s′ t t′ c c′
+command-determined rec cmd p0 p1 sent received a b r r′ s s′ t t′ c c′ e f =
+    let p = e ∙ sym f in
+    record {
+      answer = ap (λ (x : Result). x .answer) p;
+      rec-same = ap (λ (x : Result). x .rec) p;
+      part0 = ap (λ (x : Result). x .part0) p;
+      part1 = ap (λ (x : Result). x .part1) p;
+      received = ap (λ (x : Result). x .received) p;
+    }
+
+-- ---- the entry points for C: the number returned in place of the answer
+
+pub numbered-determined : (o : Left) (n m : ℕ) (s t : List ℕ) → (n, s) ≡ numbered o → (m, t) ≡ numbered o → (n ≡ m) × (s ≡ t)
+numbered-determined o n m s t e f = let p = e ∙ sym f in (ap (λ (x : ℕ × List ℕ). x .0) p, ap (λ (x : ℕ × List ℕ). x .1) p)
+
+pub view-number-determined : (p0 p1 : List ℕ) (k i n m : ℕ) → n ≡ viewNumber p0 p1 k i → m ≡ viewNumber p0 p1 k i → n ≡ m
+view-number-determined p0 p1 k i n m e f = e ∙ sym f
+
+pub returned-determined : (o : Result) (x y : Returned) → x ≡ numberedResult o → y ≡ numberedResult o → x ≡ y
+returned-determined o x y e f = e ∙ sym f
