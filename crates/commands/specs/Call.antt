@@ -13,7 +13,7 @@ use Rattle.image.specs.Changes.{occurs, cleared}
 use Rattle.sense.specs.declared.Sense.{Sense}
 use Rattle.sense.specs.Sense.{senseBytes, plainly, emptySense, attentionSense}
 use Rattle.record.specs.declared.drive.Drive.{Drive}
-use Rattle.record.specs.Record.{decodeOf, encodeOf, wellRecord, withSense}
+use Rattle.record.specs.Record.{decodeOf, encodeOf, wellFormed, wellRecord, withSense}
 use Rattle.codes.specs.declared.operation.Operation.{Operation}
 use Rattle.codes.specs.declared.operation.Operation.the-variants.{Locate, Erase}
 use Rattle.codes.specs.Codes.{codeOf, tooShort, operationOf}
@@ -113,6 +113,22 @@ stepOf d cmd p0 p1 sent received =
     let o = operationOf (codeOf cmd) in
     decided (first (tests o d cmd (seen o d cmd p0 p1) sent received)) d cmd p0 p1 sent received
 
+-- ---- the whole command, on a drive by value
+
+-- "Command order: 1; 4; ..": the whole order as one list; `well` says that the record is well formed
+abbrev pub order : Bool → Drive → List ℕ → List ℕ → List ℕ → List ℕ → List ℕ → List (Bool × Stop)
+order well d cmd p0 p1 sent received =
+    let o = operationOf (codeOf cmd) in
+    (tooShort cmd, refuse commandShort)
+    ∷ (not (well && inserted d p0 p1), refuse recordFault)
+    ∷ tests o d cmd (seen o d cmd p0 p1) sent received
+
+unfoldable pub driveTests : Drive → List ℕ → List ℕ → List ℕ → List ℕ → List ℕ → List (Bool × Stop)
+driveTests d cmd p0 p1 sent received = order (wellFormed d) d cmd p0 p1 sent received
+
+unfoldable pub driveCall : Drive → List ℕ → List ℕ → List ℕ → List ℕ → List ℕ → Outcome
+driveCall d cmd p0 p1 sent received = decided (first (driveTests d cmd p0 p1 sent received)) d cmd p0 p1 sent received
+
 -- ---- and on bytes
 
 pub record Result : Type 0 where
@@ -129,14 +145,9 @@ result a rec p0 p1 r = record { answer = a; rec = rec; part0 = p0; part1 = p1; r
 abbrev pub written : List ℕ → Outcome → Result
 written rec o = result (o .answer) (cond (eqb (o .answer .refusal) 0) (encodeOf (o .drive)) rec) (o .part0) (o .part1) (o .received)
 
--- "Command order: 1; 4; ..": the whole order as one list
+-- of the bytes of a record
 unfoldable pub commandTests : List ℕ → List ℕ → List ℕ → List ℕ → List ℕ → List ℕ → List (Bool × Stop)
-commandTests rec cmd p0 p1 sent received =
-    let d = decodeOf rec in
-    let o = operationOf (codeOf cmd) in
-    (tooShort cmd, refuse commandShort)
-    ∷ (not (wellRecord rec && inserted d p0 p1), refuse recordFault)
-    ∷ tests o d cmd (seen o d cmd p0 p1) sent received
+commandTests rec cmd p0 p1 sent received = order (wellRecord rec) (decodeOf rec) cmd p0 p1 sent received
 
 unfoldable pub commandCall : List ℕ → List ℕ → List ℕ → List ℕ → List ℕ → List ℕ → Result
 commandCall rec cmd p0 p1 sent received = written rec (decided (first (commandTests rec cmd p0 p1 sent received)) (decodeOf rec) cmd p0 p1 sent received)

@@ -1,6 +1,6 @@
 // The drive lent: a command alters it where it stands. One thin function above the step by value.
 ghost use mathlib.Core.Path.{_≡_};
-ghost use Rattle.steps.specs.Stepped.{driveCall};
+ghost use Rattle.commands.specs.Call.{driveCall};
 ghost use Rattle.drive.specs.Served.{served};
 use answers::Answer;
 use record::Drive;

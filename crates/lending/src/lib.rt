@@ -1,6 +1,7 @@
 // A drive by value, lent to `drive::serve` as a local: so that a caller, as the entry point for C, takes and gets it by value.
 ghost use mathlib.Core.Path.{_≡_};
-ghost use Rattle.steps.specs.Stepped.{outcomeOf, driveCall};
+ghost use Rattle.commands.specs.Call.{driveCall};
+ghost use Rattle.steps.specs.Stepped.{outcomeOf};
 use record::Drive;
 use steps::Stepped;
 

@@ -11,10 +11,10 @@ use Rattle.record.specs.declared.drive.Drive.{Drive}
 use Rattle.record.specs.Record.{wellFormed}
 use Rattle.codes.specs.Codes.{tooShort}
 use Rattle.commands.specs.Stop.{refuse, first}
-use Rattle.commands.specs.Call.{Outcome, inserted, stopped, decided, stepOf}
+use Rattle.commands.specs.Call.{Outcome, inserted, stopped, decided, stepOf, driveTests, driveCall}
 use Rattle.commands.proofs.Exact.{first-at}
 use Rattle.steps.specs.declared.stepping.Stepped.{Stepped}
-use Rattle.steps.specs.Stepped.{outcomeOf, driveTests, driveCall}
+use Rattle.steps.specs.Stepped.{outcomeOf}
 use Rattle.steps.proofs.Steps.{outcomes}
 
 second-false : (a b : Bool) → b ≡ false → not (a && b) ≡ true

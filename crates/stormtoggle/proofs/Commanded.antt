@@ -15,10 +15,10 @@ use Rattle.record.specs.Record.{recordLength, wellRecord, decodeOf, encodeOf}
 use Rattle.record.proofs.Judged.{no-record}
 use Rattle.codes.specs.Codes.{tooShort}
 use Rattle.commands.specs.Stop.{refuse, first}
-use Rattle.commands.specs.Call.{Result, result, written, commandTests, commandCall}
+use Rattle.commands.specs.Call.{Result, result, written, driveTests, driveCall, commandTests, commandCall}
 use Rattle.commands.proofs.Exact.{first-at, call-stops, refused-leaves}
 use Rattle.steps.specs.declared.stepping.Stepped.{Stepped}
-use Rattle.steps.specs.Stepped.{outcomeOf, driveTests, driveCall}
+use Rattle.steps.specs.Stepped.{outcomeOf}
 use Rattle.stormtoggle.specs.Calls.{returned, numberedResult}
 
 module _ (rec cmd p0 p1 sent b : List ℕ) where

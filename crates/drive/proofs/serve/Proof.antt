@@ -49,7 +49,8 @@ use Rattle.steps.proofs.stepping.Stepped as N
 use Rattle.steps.proofs.stepping.Stepped.Laws as N′
 use Rattle.answers.proofs.Answer as R
 use Rattle.answers.proofs.Answer.Laws as R′
-use Rattle.steps.specs.Stepped.{outcomeOf, driveCall}
+use Rattle.steps.specs.Stepped.{outcomeOf}
+use Rattle.commands.specs.Call.{driveCall}
 use Rattle.steps.proofs.serve_by_value as callee
 use Rattle.steps.proofs.serve_by_value.Symbol as callee-def
 use Rattle.steps.proofs.serve_by_value.Symbol.{name as #steps·serve-by-value}

@@ -48,7 +48,8 @@ use Rattle.record.proofs.drive.Drive as T
 use Rattle.record.proofs.drive.Drive.Laws as T′
 use Rattle.steps.specs.declared.stepping.Stepped.{Stepped}
 use Rattle.answers.specs.declared.Answer.{Answer}
-use Rattle.steps.specs.Stepped.{outcomeOf, driveCall}
+use Rattle.steps.specs.Stepped.{outcomeOf}
+use Rattle.commands.specs.Call.{driveCall}
 use Rattle.steps.proofs.stepping.Stepped as N
 use Rattle.steps.proofs.stepping.Stepped.Laws as N′
 use Rattle.answers.proofs.Answer as R

@@ -1,0 +1,237 @@
+/* calls.h: the services as a daemon calls them, a function for each: it makes the command block, lends the bytes, and
+ * logs a line: what was asked, the answer in words, the position as partition:object. Part of facility.c. */
+#ifndef CALLS_H
+#define CALLS_H
+
+#include "decode.h"
+#include "stormtoggle.h"
+#include <stdarg.h>
+#include <stdio.h>
+
+struct partition {
+    uint8_t *image;
+    size_t length;
+};
+
+/* All that a daemon keeps of a drive is its record; of a cartridge, its partitions. */
+struct drive {
+    uint8_t record[STORMTOGGLE_RECORD_LENGTH];
+    struct partition tape[2];
+    uint64_t answer; /* to the last call */
+    char asked[40];  /* by the last call */
+};
+
+/* ---- the log */
+
+enum { ASKED_WIDTH = 32, ANSWER_WIDTH = 78 };
+
+static inline void log_heading(void)
+{
+    printf("%-*s%-*s%s\n", ASKED_WIDTH, "asked", ANSWER_WIDTH, "answered", "partition:object");
+}
+
+static inline void ask(struct drive *d, const char *format, ...)
+{
+    va_list rest;
+    va_start(rest, format);
+    vsnprintf(d->asked, sizeof d->asked, format, rest);
+    va_end(rest);
+    printf("%-*s", ASKED_WIDTH, d->asked);
+}
+
+/* Ends the line; its answer took that many characters. */
+static inline void log_position(const struct drive *d, int printed)
+{
+    const uint8_t *record = d->record;
+    unsigned object = number_at(record + STORMTOGGLE_RECORD_POSITION);
+    printf("%*s", printed < ANSWER_WIDTH ? ANSWER_WIDTH - printed : 1, "");
+    if (record[STORMTOGGLE_RECORD_LOADED])
+        printf("%u:%u\n", record[STORMTOGGLE_RECORD_CURRENT], object);
+    else
+        printf("unloaded\n");
+}
+
+/* ---- the house services */
+
+static inline void log_done(struct drive *d, uint64_t answer)
+{
+    d->answer = answer;
+    log_position(d, print_done(stdout, answer));
+}
+
+static inline void fresh(struct drive *d)
+{
+    ask(d, "fresh record");
+    log_done(d, stormtoggle_fresh(d->record, sizeof d->record));
+}
+
+static inline void blank(struct drive *d, int partition)
+{
+    struct partition p = d->tape[partition];
+    ask(d, "blank partition %d, %zu bytes", partition, p.length);
+    log_done(d, stormtoggle_blank(p.image, p.length));
+}
+
+static inline void mount(struct drive *d)
+{
+    const struct partition *p = d->tape;
+    ask(d, "mount both partitions");
+    log_done(d, stormtoggle_mount(d->record, sizeof d->record, p[0].image, p[0].length, p[1].image, p[1].length));
+}
+
+static inline void protect(struct drive *d, int partition)
+{
+    struct partition p = d->tape[partition];
+    ask(d, "protect partition %d", partition);
+    log_done(d, stormtoggle_protect(p.image, p.length, 1));
+}
+
+/* A block where it lies in the mapped file, not copied; NULL if there is none. Nothing is refused. */
+static inline const uint8_t *view(struct drive *d, int partition, uint32_t object, size_t *length)
+{
+    const struct partition *p = d->tape;
+    ask(d, "view partition %d, object %u", partition, (unsigned)object);
+    uint64_t found = stormtoggle_view(p[0].image, p[0].length, p[1].image, p[1].length, (uint64_t)partition, object);
+    *length = STORMTOGGLE_VIEW_LENGTH(found);
+    log_position(d, printf("%zu bytes from byte %u on", *length, (unsigned)STORMTOGGLE_VIEW_START(found)));
+    return *length == 0 ? NULL : p[partition].image + STORMTOGGLE_VIEW_START(found);
+}
+
+/* ---- the SCSI commands */
+
+enum {
+    TEST_UNIT_READY = 0x00, REWIND = 0x01, REQUEST_SENSE = 0x03, READ = 0x08, WRITE = 0x0a, WRITE_FILEMARKS = 0x10,
+    SPACE = 0x11, MODE_SELECT = 0x15, LOAD_UNLOAD = 0x1b, LOCATE = 0x2b, READ_POSITION = 0x34
+};
+
+/* Byte 1 of a command block. */
+enum { FIXED = 0x01, CHANGE_PARTITION = 0x02, LONG_FORM = 0x06, PAGE_FORMAT = 0x10 };
+enum space_code { BLOCKS = 0, FILEMARKS = 1, TO_END_OF_DATA = 3 };
+
+#define BYTE(number, shift) ((uint8_t)((uint32_t)(number) >> (shift)))
+#define THREE_BYTES(number) BYTE(number, 16), BYTE(number, 8), BYTE(number, 0)
+#define FOUR_BYTES(number) BYTE(number, 24), THREE_BYTES(number)
+
+/* The bytes lent beside the command block; a command uses one direction or none. */
+struct data {
+    const uint8_t *sent;
+    size_t sent_length;
+    uint8_t *received;
+    size_t received_length;
+};
+#define NO_DATA (struct data){NULL, 0, NULL, 0}
+#define SEND(bytes, length) (struct data){(bytes), (length), NULL, 0}
+#define RECEIVE(bytes, length) (struct data){NULL, 0, (bytes), (length)}
+
+static inline void carry_out(struct drive *d, const uint8_t *command, size_t length, struct data data)
+{
+    const struct partition *p = d->tape;
+    d->answer = stormtoggle_command(d->record, sizeof d->record, command, length, p[0].image, p[0].length, p[1].image,
+                                    p[1].length, data.sent, data.sent_length, data.received, data.received_length);
+    log_position(d, print_answer(stdout, d->answer, d->record));
+}
+
+static inline void test_unit_ready(struct drive *d)
+{
+    const uint8_t command[6] = {TEST_UNIT_READY};
+    ask(d, "TEST UNIT READY");
+    carry_out(d, command, sizeof command, NO_DATA);
+}
+
+static inline void request_sense(struct drive *d, uint8_t sense[STORMTOGGLE_SENSE_LENGTH])
+{
+    const uint8_t command[6] = {REQUEST_SENSE, 0, 0, 0, STORMTOGGLE_SENSE_LENGTH};
+    ask(d, "REQUEST SENSE");
+    carry_out(d, command, sizeof command, RECEIVE(sense, STORMTOGGLE_SENSE_LENGTH));
+    if (STORMTOGGLE_CARRIED(d->answer) < STORMTOGGLE_SENSE_LENGTH)
+        return;
+    printf("    it tells: ");
+    print_sense(stdout, sense);
+    printf("\n");
+}
+
+static inline void rewind_tape(struct drive *d)
+{
+    const uint8_t command[6] = {REWIND};
+    ask(d, "REWIND");
+    carry_out(d, command, sizeof command, NO_DATA);
+}
+
+static inline void read_block(struct drive *d, uint8_t *bytes, uint32_t length)
+{
+    const uint8_t command[6] = {READ, 0, THREE_BYTES(length)};
+    ask(d, "READ %u bytes", (unsigned)length);
+    carry_out(d, command, sizeof command, RECEIVE(bytes, length));
+}
+
+static inline void write_block(struct drive *d, const uint8_t *bytes, uint32_t length)
+{
+    const uint8_t command[6] = {WRITE, 0, THREE_BYTES(length)};
+    ask(d, "WRITE %u bytes", (unsigned)length);
+    carry_out(d, command, sizeof command, SEND(bytes, length));
+}
+
+/* Many blocks of the length that is set, which the record tells. */
+static inline void write_fixed(struct drive *d, const uint8_t *bytes, uint32_t count)
+{
+    const uint8_t command[6] = {WRITE, FIXED, THREE_BYTES(count)};
+    size_t block_length = number_at(d->record + STORMTOGGLE_RECORD_BLOCK_LENGTH);
+    ask(d, "WRITE FIXED %u blocks", (unsigned)count);
+    carry_out(d, command, sizeof command, SEND(bytes, count * block_length));
+}
+
+static inline void write_filemarks(struct drive *d, uint32_t count)
+{
+    const uint8_t command[6] = {WRITE_FILEMARKS, 0, THREE_BYTES(count)};
+    ask(d, "WRITE FILEMARKS %u", (unsigned)count);
+    carry_out(d, command, sizeof command, NO_DATA);
+}
+
+/* A count below 0 goes back; its three bytes are two's complement. */
+static inline void space(struct drive *d, enum space_code code, int count)
+{
+    const uint8_t command[6] = {SPACE, (uint8_t)code, THREE_BYTES(count)};
+    if (code == TO_END_OF_DATA)
+        ask(d, "SPACE to end of data");
+    else
+        ask(d, "SPACE %s %d", code == BLOCKS ? "blocks" : "filemarks", count);
+    carry_out(d, command, sizeof command, NO_DATA);
+}
+
+static inline void locate(struct drive *d, uint8_t partition, uint32_t object)
+{
+    const uint8_t command[10] = {LOCATE, CHANGE_PARTITION, 0, FOUR_BYTES(object), 0, partition};
+    ask(d, "LOCATE partition %u, object %u", partition, (unsigned)object);
+    carry_out(d, command, sizeof command, NO_DATA);
+}
+
+/* The long form is 32 bytes. A buffer that cannot hold them is refused, and gets none. */
+static inline void read_position(struct drive *d, uint8_t *bytes, size_t length)
+{
+    const uint8_t command[10] = {READ_POSITION, LONG_FORM};
+    ask(d, "READ POSITION into %zu bytes", length);
+    carry_out(d, command, sizeof command, RECEIVE(bytes, length));
+    if (STORMTOGGLE_CARRIED(d->answer) == 0)
+        return;
+    printf("    it tells: ");
+    print_position(stdout, bytes);
+    printf("\n");
+}
+
+/* The list is a header, which says that a descriptor of 8 bytes follows, and the descriptor, which sets the length. */
+static inline void set_block_length(struct drive *d, uint32_t length)
+{
+    const uint8_t list[12] = {0, 0, 0, 8, 0, 0, 0, 0, 0, THREE_BYTES(length)};
+    const uint8_t command[6] = {MODE_SELECT, PAGE_FORMAT, 0, 0, sizeof list};
+    ask(d, "MODE SELECT block length %u", (unsigned)length);
+    carry_out(d, command, sizeof command, SEND(list, sizeof list));
+}
+
+static inline void unload(struct drive *d)
+{
+    const uint8_t command[6] = {LOAD_UNLOAD};
+    ask(d, "LOAD UNLOAD, unload");
+    carry_out(d, command, sizeof command, NO_DATA);
+}
+
+#endif

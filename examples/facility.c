@@ -1,0 +1,300 @@
+/* facility.c: a facility's day on a cartridge of two mapped files, from power-on to unload; its calls are in calls.h.
+ *
+ *   facility TILES INDEX
+ *
+ * Both files are made anew. TILES is partition 0: cycles of tiles, a filemark after each. INDEX is partition 1, and is
+ * document 01's example E in the end. What is not as it must be ends the day with a line that says so.
+ */
+#define _POSIX_C_SOURCE 200809L
+#include "calls.h"
+#include "decode.h"
+#include "stormtoggle.h"
+#include <errno.h>
+#include <fcntl.h>
+#include <stdio.h>
+#include <stdlib.h>
+#include <sys/mman.h>
+#include <unistd.h>
+
+/* The listing program takes 65,536 bytes at most. In as many, early warning comes one tile before the end. */
+enum { TILES = 0, INDEX = 1, TILES_LENGTH = 65536, INDEX_LENGTH = 64, TILE = 3840, CYCLES = 3, BATCH = 5 };
+
+/* The index: how many tiles each cycle has. With a filemark after each cycle it tells where every tile stands. */
+static const uint8_t tiles_of[CYCLES] = {1, 2, 3};
+
+/* The index partition at the day's end. */
+static const uint8_t example_e[INDEX_LENGTH] = {
+    [0] = 0x01, 0x02, 0x03,                /* object 0's data */
+    [40] = 0x80, 0x00, 0x00, 0x03,         /* object 1: a filemark that ends at 3 */
+    [44] = 0x00, 0x00, 0x00, 0x03,         /* object 0: a block that ends at 3 */
+    [51] = 0x02, [59] = 0x28, [63] = 0x40, /* trailer: N, flags 0, D, L */
+};
+
+/* ---- what is expected */
+
+static void must_equal(const struct drive *d, const char *what, long seen, long wanted)
+{
+    if (seen == wanted)
+        return;
+    fflush(stdout);
+    fprintf(stderr, "facility: %s: %s is %ld (%lxh), and not %ld (%lxh)\n", d->asked, what, seen, (unsigned long)seen,
+            wanted, (unsigned long)wanted);
+    exit(EXIT_FAILURE);
+}
+
+static void expect_bytes(const struct drive *d, const uint8_t *seen, const uint8_t *wanted, size_t length)
+{
+    size_t same = 0;
+    while (same < length && seen[same] == wanted[same])
+        same++;
+    must_equal(d, "the number of bytes as expected", (long)same, (long)length);
+}
+
+static void expect_refusal(const struct drive *d, unsigned refusal)
+{
+    must_equal(d, "the refusal", STORMTOGGLE_REFUSAL(d->answer), refusal);
+}
+
+static void expect_carried(const struct drive *d, uint32_t carried)
+{
+    must_equal(d, "the number of bytes carried", STORMTOGGLE_CARRIED(d->answer), carried);
+}
+
+/* The refusal comes first, for a refused command leaves the sense of the one before. GOOD leaves the empty sense. */
+static void expect(const struct drive *d, enum condition condition, long residue, int partition, long object)
+{
+    const uint8_t *sense = d->record + STORMTOGGLE_RECORD_SENSE;
+    expect_refusal(d, 0);
+    must_equal(d, "the status", STORMTOGGLE_STATUS(d->answer), condition == GOOD ? 0x00 : 0x02);
+    must_equal(d, "the sense (byte 2, ASC, ASCQ)", condition_of(sense), condition);
+    must_equal(d, "the residue", residue_of(sense), residue);
+    must_equal(d, "the partition", d->record[STORMTOGGLE_RECORD_CURRENT], partition);
+    must_equal(d, "the object number", number_at(d->record + STORMTOGGLE_RECORD_POSITION), object);
+}
+
+static void expect_good(const struct drive *d, int partition, long object)
+{
+    expect(d, GOOD, 0, partition, object);
+}
+
+/* ---- the day's tiles */
+
+/* The tiles of a day differ, so that one read in place of another shows. */
+static void make_tile(uint8_t *tile, unsigned cycle, unsigned number)
+{
+    for (unsigned i = 0; i < TILE; i++)
+        tile[i] = (uint8_t)(i + i / 256 + 16 * cycle + number);
+}
+
+/* Cycles and tiles count from 1, objects from 0. */
+static uint32_t object_of(const uint8_t *index, unsigned cycle, unsigned number)
+{
+    uint32_t object = number - 1;
+    for (unsigned before = 1; before < cycle; before++)
+        object += index[before - 1] + 1u; /* its tiles, and the filemark */
+    return object;
+}
+
+static void expect_tile(const struct drive *d, const uint8_t *seen, unsigned cycle, unsigned number)
+{
+    uint8_t wanted[TILE];
+    make_tile(wanted, cycle, number);
+    expect_bytes(d, seen, wanted, TILE);
+    printf("    compared: these are the bytes of tile %u of cycle %u\n", number, cycle);
+}
+
+/* ---- the day, part by part */
+
+/* The drive first tells once that it was reset, then that it is empty; after the mount, that the medium is another. */
+static void open_the_day(struct drive *d)
+{
+    uint8_t sense[STORMTOGGLE_SENSE_LENGTH];
+    puts("\nPower on, and a blank cartridge");
+    fresh(d);
+    expect_refusal(d, 0);
+    for (int partition = TILES; partition <= INDEX; partition++) {
+        blank(d, partition);
+        expect_refusal(d, 0);
+    }
+    request_sense(d, sense);
+    expect_good(d, 0, 0);
+    must_equal(d, "what is told", condition_of(sense), POWER_ON);
+    test_unit_ready(d);
+    expect(d, MEDIUM_NOT_PRESENT, 0, 0, 0);
+    mount(d);
+    expect_refusal(d, 0);
+    mount(d);
+    expect_refusal(d, 5);
+    test_unit_ready(d);
+    expect(d, MEDIUM_CHANGED, 0, TILES, 0);
+    test_unit_ready(d);
+    expect_good(d, TILES, 0);
+}
+
+static void write_cycles(struct drive *d)
+{
+    uint8_t tile[TILE];
+    uint32_t object = 0;
+    puts("\nThree cycles of tiles");
+    for (unsigned cycle = 1; cycle <= CYCLES; cycle++) {
+        for (unsigned number = 1; number <= tiles_of[cycle - 1]; number++) {
+            make_tile(tile, cycle, number);
+            write_block(d, tile, TILE);
+            expect_good(d, TILES, ++object);
+            expect_carried(d, TILE);
+        }
+        write_filemarks(d, 1);
+        expect_good(d, TILES, ++object);
+    }
+}
+
+/* SPACE over blocks crosses the filemark that stops it. The residue is what is missing of the count, sign and all. */
+static void go_back(struct drive *d)
+{
+    uint8_t bytes[TILE + 256];
+    puts("\nBack over a filemark, and a tile read");
+    space(d, BLOCKS, -5);
+    expect(d, FILEMARK_DETECTED, -5, TILES, 8);
+    space(d, BLOCKS, -1);
+    expect_good(d, TILES, 7);
+    read_block(d, bytes, TILE);
+    expect_good(d, TILES, 8);
+    expect_carried(d, TILE);
+    expect_tile(d, bytes, 3, 3);
+    read_block(d, bytes, TILE);
+    expect(d, FILEMARK_DETECTED, TILE, TILES, 9);
+    space(d, FILEMARKS, -9);
+    expect(d, BEGINNING_OF_PARTITION, -6, TILES, 0);
+    read_block(d, bytes, sizeof bytes);
+    expect(d, WRONG_LENGTH, 256, TILES, 1);
+    expect_carried(d, TILE);
+    expect_tile(d, bytes, 1, 1);
+}
+
+/* The index finds a tile by one LOCATE. The view shows the same tile in the file itself. */
+static void use_index(struct drive *d)
+{
+    uint8_t index[CYCLES], tile[TILE];
+    size_t length;
+    puts("\nAn index in partition 1, and a tile found by it");
+    locate(d, INDEX, 0);
+    expect_good(d, INDEX, 0);
+    write_block(d, tiles_of, CYCLES);
+    expect_good(d, INDEX, 1);
+    write_filemarks(d, 1);
+    expect_good(d, INDEX, 2);
+    expect_bytes(d, d->tape[INDEX].image, example_e, INDEX_LENGTH);
+    rewind_tape(d);
+    expect_good(d, INDEX, 0);
+    read_block(d, index, CYCLES);
+    expect_good(d, INDEX, 1);
+    expect_bytes(d, index, tiles_of, CYCLES);
+    uint32_t object = object_of(index, 2, 2);
+    locate(d, TILES, object);
+    expect_good(d, TILES, 3);
+    read_block(d, tile, TILE);
+    expect_good(d, TILES, 4);
+    expect_tile(d, tile, 2, 2);
+    const uint8_t *block = view(d, TILES, object, &length);
+    must_equal(d, "the block's length", (long)length, TILE);
+    expect_tile(d, block, 2, 2);
+}
+
+/* The next tiles of the fourth cycle, as one WRITE sends them. */
+static void write_batch(struct drive *d, unsigned first)
+{
+    uint8_t batch[BATCH * TILE];
+    for (unsigned i = 0; i < BATCH; i++)
+        make_tile(batch + i * TILE, CYCLES + 1, first + i);
+    write_fixed(d, batch, BATCH);
+}
+
+/* At early warning all is written; at overflow the residue tells how many tiles are not. A filemark still fits. */
+static void fill(struct drive *d)
+{
+    uint8_t position[32];
+    puts("\nA fourth cycle, to early warning and on to volume overflow");
+    set_block_length(d, TILE);
+    expect_good(d, TILES, 4);
+    space(d, TO_END_OF_DATA, 0);
+    expect_good(d, TILES, 9);
+    write_batch(d, 1);
+    expect_good(d, TILES, 14);
+    write_batch(d, 6);
+    expect(d, EARLY_WARNING, 0, TILES, 19);
+    expect_carried(d, BATCH * TILE);
+    write_batch(d, 11);
+    expect(d, VOLUME_OVERFLOW, BATCH - 1, TILES, 20);
+    expect_carried(d, TILE);
+    write_filemarks(d, 1);
+    expect(d, EARLY_WARNING, 0, TILES, 21);
+    read_position(d, position, sizeof position - 1);
+    expect_refusal(d, 3);
+    read_position(d, position, sizeof position);
+    expect_good(d, TILES, 21);
+    must_equal(d, "byte 0", position[0], POSITION_WARNING);
+    must_equal(d, "the object told", number_at(position + 12), 21);
+    must_equal(d, "the number of filemarks told", number_at(position + 20), CYCLES + 1);
+}
+
+static void close_the_day(struct drive *d)
+{
+    uint8_t tile[TILE];
+    puts("\nThe last tile read, the tiles protected, and the cartridge out");
+    locate(d, TILES, 99);
+    expect(d, END_OF_DATA, 0, TILES, 21);
+    locate(d, TILES, 19);
+    expect_good(d, TILES, 19);
+    read_block(d, tile, TILE);
+    expect_good(d, TILES, 20);
+    expect_tile(d, tile, 4, 11);
+    protect(d, TILES);
+    expect_refusal(d, 0);
+    write_block(d, tile, TILE);
+    expect(d, WRITE_PROTECTED, 0, TILES, 20);
+    unload(d);
+    expect_good(d, 0, 0);
+    test_unit_ready(d);
+    expect(d, MEDIUM_NOT_PRESENT, 0, 0, 0);
+}
+
+/* ---- the files */
+
+static void stop(const char *name)
+{
+    perror(name);
+    exit(EXIT_FAILURE);
+}
+
+/* Shared, so that what a service stores is in the file; allocated, so that no store finds the disk full. */
+static struct partition map_partition(const char *name, size_t length)
+{
+    int file = open(name, O_RDWR | O_CREAT | O_TRUNC, 0644);
+    if (file < 0 || (errno = posix_fallocate(file, 0, (off_t)length)) != 0)
+        stop(name);
+    void *image = mmap(NULL, length, PROT_READ | PROT_WRITE, MAP_SHARED, file, 0);
+    if (image == MAP_FAILED)
+        stop(name);
+    close(file); /* the mapping stays */
+    return (struct partition){image, length};
+}
+
+int main(int count, char **words)
+{
+    if (count != 3) {
+        fprintf(stderr, "usage: facility TILES INDEX\n");
+        return EXIT_FAILURE;
+    }
+    struct drive d = {.tape = {map_partition(words[1], TILES_LENGTH), map_partition(words[2], INDEX_LENGTH)}};
+    log_heading();
+    open_the_day(&d);
+    write_cycles(&d);
+    go_back(&d);
+    use_index(&d);
+    fill(&d);
+    close_the_day(&d);
+    for (int i = TILES; i <= INDEX; i++)
+        if (msync(d.tape[i].image, d.tape[i].length, MS_SYNC) != 0 || munmap(d.tape[i].image, d.tape[i].length) != 0)
+            stop(words[1 + i]);
+    return EXIT_SUCCESS;
+}
