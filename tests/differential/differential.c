@@ -1,0 +1,310 @@
+/* differential.c SEED CALLS: the library held to the model of document 01, call by call, on seeded random work. */
+#define _DEFAULT_SOURCE
+#include "report.h"
+#include "work.h"
+
+/* ---- sequences from a blank cartridge */
+
+/* Mostly small, where the zone and the end are near; at times large enough for blocks of 65,536 bytes. Where sixteen
+ * divides the length, room can lie on the zone's very bound. */
+static size_t likely_image_length(void)
+{
+    uint32_t kind = draw(200);
+    if (kind < 40)
+        return 64 + 16 * draw(8);
+    if (kind < 80)
+        return 64 + draw(20);
+    if (kind < 120)
+        return 64 + draw(100);
+    if (kind < 165)
+        return 128 + draw(500);
+    if (kind < 190)
+        return 500 + draw(4000);
+    if (kind < 198)
+        return 4000 + draw(20000);
+    return 66000 + draw(240000);
+}
+
+static void run_calls(unsigned calls)
+{
+    uint64_t answer = 0;
+    while (calls-- > 0)
+        answer = likely_call(answer);
+}
+
+static void run_sequence(void)
+{
+    size_t lengths[2] = {likely_image_length(), one_in(2) ? likely_image_length() : 0};
+    place(P0, lengths[0]);
+    place(P1, lengths[1]);
+    place(RECORD, RECORD_BYTES);
+    lay_noise(P0);
+    lay_noise(P1);
+    call_blank(P0);
+    call_blank(P1);
+    call_fresh();
+    run_calls(50 + draw(150));
+}
+
+/* ---- a state made at once, and taken again for each call */
+
+/* Lays so many objects, as far as they fit; of a hundred, so many are filemarks. */
+static void lay_image(enum slice slice, size_t objects, uint32_t filemarks, uint32_t block_most)
+{
+    size_t length = twins[slice].length, count = 0, end = 0;
+    uint8_t *image = bytes_of(slice, MODEL);
+    lay_noise(slice);
+    for (; count < objects; count++) {
+        int is_filemark = draw(100) < filemarks;
+        size_t size = is_filemark ? 0 : 1 + draw(block_most);
+        if (end + size + 4 * (count + 1) + 16 > length)
+            break;
+        end += size;
+        put32(image + length - 16 - 4 * (count + 1), (uint32_t)end | (is_filemark ? 0x80000000u : 0));
+    }
+    lay_count(image, length, count);
+    put32(image + length - 12, one_in(4));
+    put32(image + length - 4, (uint32_t)length);
+    lay(slice, 0, image, length);
+}
+
+static size_t objects_of(enum slice slice)
+{
+    if (twins[slice].length == 0)
+        return 0;
+    return get32(bytes_of(slice, MODEL) + twins[slice].length - 16);
+}
+
+/* A well-formed record of a cartridge that is already laid, with any kept sense. */
+static void lay_record(int loaded)
+{
+    static const uint8_t attentions[] = {0x00, 0x00, 0x00, 0x00, 0x00, 0x00, 0x28, 0x29};
+    static const uint32_t lengths[] = {0, 0, 1, 2, 3, 4, 65535, 65536};
+    uint8_t record[RECORD_BYTES] = {0};
+    memcpy(record + 12, noise + draw(1000), SENSE_BYTES);
+    record[3] = attentions[draw(COUNT(attentions))];
+    put32(record + 8, lengths[draw(COUNT(lengths))]);
+    if (loaded) {
+        record[0] = 1;
+        record[1] = (twins[P1].length == 0) == !one_in(12) ? 1 : 2; /* at times not the number lent */
+        record[2] = (uint8_t)draw(record[1]);
+        put32(record + 4, draw(objects_of(record[2] == 0 ? P0 : P1) + 1));
+    }
+    place(RECORD, RECORD_BYTES);
+    lay(RECORD, 0, record, RECORD_BYTES);
+}
+
+static struct {
+    uint8_t record[RECORD_BYTES], image[2][256];
+} kept;
+
+static void lay_state(void)
+{
+    place(P0, 64 + draw(100));
+    place(P1, one_in(2) ? 64 + draw(100) : 0);
+    lay_image(P0, draw(7), 40, 9);
+    if (twins[P1].length > 0)
+        lay_image(P1, draw(7), 40, 9);
+    lay_record(!one_in(4));
+    memcpy(kept.record, bytes_of(RECORD, MODEL), RECORD_BYTES);
+    memcpy(kept.image[0], bytes_of(P0, MODEL), twins[P0].length);
+    memcpy(kept.image[1], bytes_of(P1, MODEL), twins[P1].length);
+}
+
+static void lay_state_again(void)
+{
+    lay(RECORD, 0, kept.record, RECORD_BYTES);
+    lay(P0, 0, kept.image[0], twins[P0].length);
+    lay(P1, 0, kept.image[1], twins[P1].length);
+}
+
+/* ---- one byte off, at every field */
+
+static void call_any_service(void)
+{
+    switch (draw(5)) {
+    case 0: call_mount(); break;
+    case 1: call_protect(); break;
+    case 2: call_view(); break;
+    default: likely_command(); break;
+    }
+}
+
+static void run_with_byte_off(enum slice slice, size_t at)
+{
+    const uint8_t changes[] = {1, 0xff, (uint8_t)(1 << draw(8)), (uint8_t)(1 + draw(255))};
+    for (size_t i = 0; i < COUNT(changes); i++) {
+        uint8_t byte = (uint8_t)(bytes_of(slice, MODEL)[at] + changes[i]);
+        lay(slice, at, &byte, 1);
+        look();
+        likely_command();
+        call_any_service();
+        lay_state_again();
+    }
+}
+
+static void run_bytes_off(void)
+{
+    lay_state();
+    for (size_t at = 0; at < RECORD_BYTES; at++)
+        run_with_byte_off(RECORD, at);
+    for (enum slice slice = P0; slice <= P1; slice++) {
+        size_t length = twins[slice].length;
+        for (size_t back = 1; length > 0 && back <= 16 + 4 * objects_of(slice); back++)
+            run_with_byte_off(slice, length - back);
+    }
+}
+
+/* ---- an operation code, bit by bit and length by length */
+
+static void call_with_block(size_t length)
+{
+    lend_block(length);
+    lend_buffers();
+    call_command();
+    lay_state_again();
+}
+
+/* A bit alone, and a bit turned in a block that is mostly lawful; a code not served has no such block. */
+static void run_code(uint8_t code)
+{
+    lay_state();
+    look();
+    for (unsigned bit = 0; bit < 20 * 8; bit++) {
+        for (int lawful = 0; lawful <= (served_as(code) != NULL); lawful++) {
+            memset(block, 0, 20);
+            block[0] = code;
+            if (lawful)
+                set_block(code);
+            block[bit / 8] ^= (uint8_t)(1 << bit % 8);
+            call_with_block(20);
+        }
+    }
+    reached.codes_run++;
+    for (size_t length = 0; length <= 20; length++) {
+        set_block(code);
+        call_with_block(length);
+    }
+}
+
+/* ---- bytes and lengths at random */
+
+static void run_noise(void)
+{
+    for (int calls = 0; calls < 40; calls++) {
+        for (int slice = 0; slice < SLICES; slice++) {
+            place((enum slice)slice, one_in(4) ? 0 : draw(110));
+            lay_noise((enum slice)slice);
+        }
+        if (one_in(2))
+            lay_record(0);
+        look();
+        switch (draw(8)) {
+        case 0: call_fresh(); break;
+        case 1: call_blank(either_partition()); break;
+        case 2: call_mount(); break;
+        case 3: call_protect(); break;
+        case 4: call_view(); break;
+        default: make_call((struct call){.service = A_COMMAND}); break;
+        }
+    }
+}
+
+/* ---- more objects than 16 bits count */
+
+static void run_many_objects(void)
+{
+    size_t counts[] = {65530 + draw(12), 70000 + draw(20000), 100001 + draw(20000)};
+    size_t count = counts[draw(COUNT(counts))], spare = one_in(2) ? draw(60) : draw(30000);
+    place(P0, one_in(2) ? 0 : 64 + draw(100));
+    place(P1, 16 + 4 * count + spare);
+    lay_image(P1, count, 100, 1);
+    if (twins[P0].length > 0) {
+        lay_image(P0, 3, 50, 9);
+    } else {
+        /* The one partition that there is. */
+        place(P0, 16 + 4 * count + spare);
+        lay_image(P0, count, one_in(2) ? 100 : 99, 3);
+        place(P1, 0);
+    }
+    lay_record(0);
+    call_mount();
+    run_calls(40);
+}
+
+/* ---- more bytes lent than 32 bits count */
+
+static const size_t wide = (size_t)BEYOND_32_BITS + 0x100000;
+
+static struct twin wide_twin(int access)
+{
+    struct twin twin = {.room_length = wide};
+    for (int side = MODEL; side <= LIBRARY; side++) {
+        void *room = mmap(NULL, wide, access, MAP_PRIVATE | MAP_ANONYMOUS | MAP_NORESERVE, -1, 0);
+        if (room == MAP_FAILED)
+            abort();
+        twin.room[side] = room;
+    }
+    return twin;
+}
+
+/* READ and WRITE of 2^32 bytes and a little more, lent in full or a byte short; only touched pages take memory. */
+static void run_wide(void)
+{
+    static struct twin wide_sent, wide_received;
+    struct twin sent = twins[SENT], received = twins[RECEIVED];
+    if (wide_sent.room_length == 0) {
+        wide_sent = wide_twin(PROT_READ);
+        wide_received = wide_twin(PROT_READ | PROT_WRITE);
+    }
+    for (int calls = 0; calls < 12; calls++) {
+        uint32_t block_length = one_in(2) ? 65536 : 257 + draw(2000);
+        uint64_t count = BEYOND_32_BITS / block_length + draw(3), bytes = count * block_length;
+        uint8_t record[RECORD_BYTES] = {[0] = 1, [1] = 1};
+        place(P0, one_in(2) ? 3000 + draw(3000) : 140000 + draw(70000));
+        lay_image(P0, draw(4), 10, 1);
+        place(P1, 0);
+        put32(record + 8, block_length);
+        place(RECORD, RECORD_BYTES);
+        lay(RECORD, 0, record, RECORD_BYTES);
+        look();
+        twins[SENT] = wide_sent;
+        twins[RECEIVED] = wide_received;
+        twins[SENT].length = twins[RECEIVED].length = (size_t)bytes - one_in(4);
+        for (int i = 0; i < 6; i++) {
+            set_block(i == 0 ? 0x0a : i == 1 ? 0x01 : one_in(2) ? 0x08 : 0x0a);
+            block[1] = block[0] != 0x01;
+            if (block[1])
+                set_count(count);
+            lend_block(6);
+            reached.wide_done += (call_command() >> 32 & 7) == 0 && block[0] != 0x01;
+        }
+        twins[SENT] = sent;
+        twins[RECEIVED] = received;
+    }
+}
+
+int main(int arguments, char **argument)
+{
+    if (arguments != 3) {
+        printf("differential SEED CALLS\n");
+        return 2;
+    }
+    seed = strtoull(argument[1], NULL, 10);
+    reached.wanted = strtoul(argument[2], NULL, 10);
+    random_state = seed;
+    map_twins();
+    catch_faults();
+    for (unsigned round = 0; !is_over(); round++) {
+        for (int sequences = 0; sequences < 8; sequences++)
+            run_sequence();
+        run_code((uint8_t)round);
+        run_bytes_off();
+        run_noise();
+        if (round % 16 == 0)
+            run_many_objects();
+        if (round % 64 == 0)
+            run_wide();
+    }
+    return report();
+}

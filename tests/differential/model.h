@@ -1,0 +1,209 @@
+/* model.h: document 01 in plain C, written from it alone: images as objects, the record, the house services. */
+#ifndef MODEL_H
+#define MODEL_H
+
+#include "../check.h"
+
+/* One seeded slip of the model, so that faults.sh can show that the comparison finds it; 0 is none. */
+#ifndef FAULT
+#define FAULT 0
+#endif
+
+enum { RECORD_BYTES = 30, SENSE_BYTES = 18, BLOCK_MOST = 65536, IMAGE_LEAST = 64, IMAGE_MOST = 1073741824 };
+
+/* ---- an image, decoded */
+
+struct object {
+    uint32_t start, end; /* of its data; equal for a filemark */
+    int is_filemark;
+};
+
+struct tape {
+    uint64_t length; /* L */
+    uint64_t count;  /* N */
+    int is_protected;
+    struct object *objects;
+    size_t capacity;
+};
+
+static inline void make_room_for(struct tape *tape, uint64_t objects)
+{
+    if (objects <= tape->capacity)
+        return;
+    tape->capacity = (size_t)objects + 1024;
+    tape->objects = realloc(tape->objects, tape->capacity * sizeof *tape->objects);
+    if (tape->objects == NULL)
+        abort();
+}
+
+static inline int length_is_lawful(uint64_t length)
+{
+    return length >= IMAGE_LEAST && length <= IMAGE_MOST;
+}
+
+/* How far from the front the entry of an object lies. */
+static inline uint64_t entry_at(uint64_t length, uint64_t object)
+{
+    return length - 16 - 4 * (object + 1);
+}
+
+/* Whether the image is sound; its objects are known only then. */
+static inline int decode(struct tape *tape, const uint8_t *image, uint64_t length)
+{
+    uint64_t count, flags, directory, own_length;
+    uint32_t end = 0;
+    tape->length = length;
+    tape->count = 0;
+    tape->is_protected = 0;
+    if (!length_is_lawful(length))
+        return 0;
+    count = get32(image + length - 16);
+    flags = get32(image + length - 12);
+    directory = get32(image + length - 8);
+    own_length = get32(image + length - 4);
+    /* In 64 bits, so that 4N cannot wrap. */
+    if (own_length != length || flags > 1 || directory + 4 * count + 16 != length)
+        return 0;
+    make_room_for(tape, count);
+    for (uint64_t i = 0; i < count; i++) {
+        uint32_t entry = get32(image + entry_at(length, i));
+        struct object object = {end, entry & 0x7fffffff, entry >> 31 != 0};
+        int64_t size = (int64_t)object.end - (int64_t)object.start;
+        if (object.is_filemark ? size != 0 : size < 1 || size > BLOCK_MOST)
+            return 0;
+        tape->objects[i] = object;
+        end = object.end;
+    }
+    if (end > directory)
+        return 0;
+    tape->count = count;
+    tape->is_protected = flags == 1;
+    return 1;
+}
+
+/* end(n): where the data of the objects before n ends. */
+static inline uint64_t end_before(const struct tape *tape, uint64_t n)
+{
+    return n == 0 ? 0 : tape->objects[n - 1].end;
+}
+
+static inline uint64_t room_at(const struct tape *tape, uint64_t n)
+{
+    return tape->length - 16 - (4 * n + end_before(tape, n));
+}
+
+static inline int in_zone(const struct tape *tape, uint64_t n)
+{
+    if (FAULT == 4)
+        return room_at(tape, n) * 16 <= tape->length - 16;
+    return room_at(tape, n) * 16 < tape->length - 16;
+}
+
+/* Lays N, and D, which follows from it. */
+static inline void lay_count(uint8_t *image, uint64_t length, uint64_t count)
+{
+    put32(image + length - 16, (uint32_t)count);
+    put32(image + length - 8, (uint32_t)(length - 16 - 4 * count));
+}
+
+/* ---- answers */
+
+static inline uint64_t refused(unsigned number)
+{
+    return (uint64_t)number << 32;
+}
+
+static inline uint64_t answered(int check_condition, uint64_t carried)
+{
+    return carried | (uint64_t)(check_condition != 0) << 35;
+}
+
+/* ---- the record */
+
+static const uint8_t nothing_told[SENSE_BYTES] = {[0] = 0x70, [7] = 0x0a};
+
+static inline int record_is_well_formed(const uint8_t *record, uint64_t length)
+{
+    if (length != RECORD_BYTES)
+        return 0;
+    if (record[3] != 0x00 && record[3] != 0x28 && record[3] != 0x29)
+        return 0;
+    if (get32(record + 8) > BLOCK_MOST)
+        return 0;
+    if (record[0] == 0)
+        return record[1] == 0 && record[2] == 0 && get32(record + 4) == 0;
+    /* Whether the position is at most N is for the command to see, which has the partitions. */
+    return record[0] == 1 && (record[1] == 1 || record[1] == 2) && record[2] < record[1];
+}
+
+/* ---- the house services, over the library's own slices */
+
+static inline uint64_t model_fresh(uint8_t *record, size_t length)
+{
+    if (length != RECORD_BYTES)
+        return refused(4);
+    memset(record, 0, RECORD_BYTES);
+    record[3] = 0x29;
+    memcpy(record + 12, nothing_told, SENSE_BYTES);
+    return answered(0, 0);
+}
+
+static inline uint64_t model_blank(uint8_t *image, size_t length)
+{
+    if (!length_is_lawful(length))
+        return refused(7);
+    lay_count(image, length, 0);
+    put32(image + length - 12, 0);
+    put32(image + length - 4, (uint32_t)length);
+    return answered(0, 0);
+}
+
+static inline uint64_t model_protect(uint8_t *image, size_t length, uint64_t on)
+{
+    static struct tape tape;
+    if (!length_is_lawful(length))
+        return refused(7);
+    if (!decode(&tape, image, length))
+        return refused(6);
+    /* Flag bit 0 is the lowest of a big-endian word. */
+    image[length - 9] = (uint8_t)((image[length - 9] & 0xfe) | (on != 0));
+    return answered(0, 0);
+}
+
+static inline uint64_t model_mount(uint8_t *record, size_t record_length, const uint8_t *p0, size_t p0_length,
+                                   const uint8_t *p1, size_t p1_length)
+{
+    static struct tape tape;
+    int second_is_absent = p1_length == 0;
+    if (!record_is_well_formed(record, record_length))
+        return refused(4);
+    if (record[0] == 1)
+        return refused(5);
+    if (!length_is_lawful(p0_length) || !(second_is_absent || length_is_lawful(p1_length)))
+        return refused(7);
+    if (!decode(&tape, p0, p0_length) || !(second_is_absent || decode(&tape, p1, p1_length)))
+        return refused(6);
+    memset(record, 0, RECORD_BYTES);
+    record[0] = 1;
+    record[1] = second_is_absent ? 1 : 2;
+    record[3] = 0x28;
+    memcpy(record + 12, nothing_told, SENSE_BYTES);
+    return answered(0, 0);
+}
+
+static inline uint64_t model_view(const uint8_t *p0, size_t p0_length, const uint8_t *p1, size_t p1_length,
+                                  uint64_t partition, uint64_t object)
+{
+    static struct tape tape;
+    const struct object *block;
+    if (partition > 1)
+        return 0;
+    if (!decode(&tape, partition == 0 ? p0 : p1, partition == 0 ? p0_length : p1_length) || object >= tape.count)
+        return 0;
+    block = &tape.objects[object];
+    if (block->is_filemark)
+        return 0;
+    return (uint64_t)block->start << 32 | (block->end - block->start);
+}
+
+#endif
