@@ -5,8 +5,9 @@
  *   - a pointer is NULL only with length 0;
  *   - nothing else maps or writes their bytes meanwhile.
  * Beyond that, bytes, lengths and numbers may have any value: what is wrong is refused by number, and a refused call
- * changes no byte. A partition whose bytes a call leaves as they are gets no store at all, so it may be mapped
- * read-only.
+ * changes no byte. A partition that a call only reads, that is not the current one, or whose call is refused or ends in a
+ * test gets no store at all, so it may be mapped read-only. (A WRITE or an ERASE that finds just its bytes there already
+ * may store them again.)
  */
 #ifndef STORMTOGGLE_H
 #define STORMTOGGLE_H
