@@ -1,31 +1,29 @@
 -- What each command leaves, in the shape of the one definition over all of them.
 -- Assumes nothing.
-use Prim.Native.Nat.{ℕ, zero, suc, _+_, _≤_, _<_}
+use Prim.Native.Nat.{ℕ, _+_}
 use native.Mathlib.Omega.{arith}
-use mathlib.Core.Path.{_≡_, refl, sym, ap, _∙_, subst}
-use mathlib.Core.Bool.{Bool, true, false, cond, not, _&&_}
-use mathlib.Core.Option.{Option, none, some}
-use mathlib.Core.List.{List, [], _∷_}
-use borrow.Author.Tests.{eq-eqb, ne-eqb, eqb-true, leb-true, not-true, not-false}
+use mathlib.Core.Path.{_≡_, refl, sym, ap, _∙_}
+use mathlib.Core.Bool.{Bool, true, false, cond, not}
+use mathlib.Core.List.{List, []}
+use borrow.Author.Tests.{ne-eqb, eqb-true}
 use lib.Dec.{eqb, leb}
 use lib.IntN.{ℤ, subℕ}
-use lib.ListN.{length, take, drop}
-use Rattle.words.specs.Words.{over, limited}
+use lib.ListN.{length, take}
+use Rattle.words.specs.Words.{over}
 use Rattle.objects.specs.Object.{Object, bytesIn}
-use Rattle.image.specs.Image.{count, sound, protected, roomOf, zoneIn}
+use Rattle.image.specs.Image.{protected, roomOf, zoneIn}
 use Rattle.image.specs.Changes.{occurs}
 use Rattle.record.specs.declared.drive.Drive.{Drive}
 use Rattle.record.specs.Record.{loadedAnew, unloaded}
 use Rattle.codes.specs.declared.operation.Operation.{Operation}
 use Rattle.codes.specs.declared.operation.Operation.the-variants.{TestUnitReady, Rewind, RequestSense, ReadBlockLimits, Read, Write, WriteFilemarks, Space, ModeSelect, Erase, ModeSense, LoadUnload, Locate, ReadPosition, NotServed}
 use Rattle.codes.specs.Codes.{numberOf, operationOf}
-use Rattle.codes.specs.Fields.{loadOf, longOf, allocationOf, transferOf, fixedOf, spaceCodeOf, objectOf}
+use Rattle.codes.specs.Fields.{loadOf, allocationOf, transferOf, fixedOf, spaceCodeOf, objectOf}
 use Rattle.codes.proofs.Rules.{operation-number}
-use Rattle.mode.specs.Mode.{listLengthKnown, modeData, listRight}
+use Rattle.mode.specs.Mode.{listRight}
 use Rattle.commands.specs.declared.deeds.Left.{Left}
-use Rattle.commands.specs.Kinds.{among, isServed, needsCartridge}
+use Rattle.commands.specs.Kinds.{isServed, needsCartridge}
 use Rattle.commands.specs.Act.{Seen, Deed, good, at, carrying, reading, writing, marking, spacing, locating, selecting, replyOf, act, eventsOf, offered, goesDown, wrote, toEnd}
-use Rattle.commands.specs.Tests.{taken, needed, bytesAsked}
 use Rattle.commands.specs.Call.{seenOf, nothing, changed}
 use Rattle.commands.specs.Left.{leftBy, protectedOnly}
 

@@ -1,19 +1,19 @@
 -- The tests look at the partition only for its protection, and only where the command writes: the length of a reply does not depend on what is seen.
 -- Assumes nothing.
 use Prim.Native.Nat.{ℕ, min}
-use mathlib.Core.Path.{_≡_, refl, sym, ap, ap₂, _∙_}
-use mathlib.Core.Bool.{Bool, true, false, cond, not, _&&_}
-use mathlib.Core.List.{List, [], _∷_}
+use mathlib.Core.Path.{_≡_, refl, sym, ap, _∙_}
+use mathlib.Core.Bool.{Bool, true, false, cond, _&&_}
+use mathlib.Core.List.{List}
 use lib.Dec.{eqb}
 use lib.ListN.{length, take, length-take}
-use Rattle.words.specs.Words.{bytes, limited}
+use Rattle.words.specs.Words.{bytes}
 use Rattle.objects.specs.Object.{filemarksIn}
 use Rattle.record.specs.declared.drive.Drive.{Drive}
 use Rattle.codes.specs.declared.operation.Operation.{Operation}
 use Rattle.codes.specs.declared.operation.Operation.the-variants.{TestUnitReady, Rewind, RequestSense, ReadBlockLimits, Read, Write, WriteFilemarks, Space, ModeSelect, Erase, ModeSense, LoadUnload, Locate, ReadPosition, NotServed}
 use Rattle.codes.specs.Fields.{allocationOf, dbdOf, formOf}
-use Rattle.mode.specs.Mode.{modeData, shortPosition, longPosition, positionFlags}
-use Rattle.commands.specs.Stop.{Stop, first}
+use Rattle.mode.specs.Mode.{modeData, shortPosition, longPosition}
+use Rattle.commands.specs.Stop.{first}
 use Rattle.commands.specs.Kinds.{writes}
 use Rattle.commands.specs.Act.{Seen, shortForm, zoneAt, replyOf}
 use Rattle.commands.specs.Tests.{tests, needed}

@@ -2,12 +2,12 @@
 -- Assumes nothing.
 use Prim.Native.Nat.{ℕ, _≤_}
 use native.Mathlib.Omega.{arith}
-use mathlib.Core.Path.{_≡_, refl, sym, ap, _∙_}
-use mathlib.Core.Bool.{Bool, true, false, cond, not, _&&_}
+use mathlib.Core.Path.{_≡_, refl, _∙_}
+use mathlib.Core.Bool.{Bool, true, false, cond}
 use mathlib.Core.Option.{none}
 use mathlib.Core.List.{List, [], _∷_}
 use borrow.Author.Tests.{leb-true, not-false}
-use lib.Dec.{eqb, leb}
+use lib.Dec.{leb}
 use lib.ListN.{length}
 use Rattle.objects.specs.Object.{largestBlock}
 use Rattle.image.specs.Image.{count, sound, protected}
@@ -18,8 +18,8 @@ use Rattle.codes.specs.Codes.{codeOf, tooShort, operationOf}
 use Rattle.codes.specs.Fields.{allocationOf}
 use Rattle.mode.specs.Mode.{listLengthKnown}
 use Rattle.commands.specs.Stop.{first}
-use Rattle.commands.specs.Kinds.{among, needsCartridge, writes}
-use Rattle.commands.specs.Act.{Seen, replyOf}
+use Rattle.commands.specs.Kinds.{among, needsCartridge}
+use Rattle.commands.specs.Act.{replyOf}
 use Rattle.commands.specs.Tests.{tests, taken, needed, bytesAsked, fieldError}
 use Rattle.commands.specs.Call.{seenOf, nothing}
 use Rattle.commands.specs.Left.{protectedOnly}

@@ -1,19 +1,19 @@
 -- How the code judges number 4 beyond the record, test by test: one law for each return.
 -- Assumes nothing.
-use Prim.Native.Nat.{ℕ, _≤_, _<_}
+use Prim.Native.Nat.{ℕ, _≤_}
 use native.Mathlib.Omega.{arith}
-use mathlib.Core.Path.{_≡_, refl, sym, ap, _∙_}
-use mathlib.Core.Bool.{Bool, true, false, cond, not, _&&_}
+use mathlib.Core.Path.{_≡_, refl, sym, _∙_}
+use mathlib.Core.Bool.{Bool, true, false, not}
 use mathlib.Core.List.{List}
-use borrow.Author.Tests.{eq-eqb, ne-eqb, not-true, not-false}
-use lib.Dec.{eqb, leb}
+use borrow.Author.Tests.{ne-eqb, not-true, not-false}
+use lib.Dec.{leb}
 use lib.ListN.{length}
 use Rattle.image.specs.Image.{trailerLength, count, sound}
 use Rattle.image.proofs.Facts.{sound-parts}
 use Rattle.record.specs.declared.drive.Drive.{Drive}
 use Rattle.record.specs.Record.{wellFormed}
 use Rattle.commands.specs.Call.{inserted}
-use Rattle.steps.proofs.Looked.{Loaded, loaded}
+use Rattle.steps.proofs.Looked.{loaded}
 
 pub long-trailed : (p : List ℕ) (b : Bool) → b ≡ sound p → not b ≡ false → trailerLength ≤ length p
 long-trailed p b e h = let w = sound-parts p (sym e ∙ not-false b h) in omega (arith, w .least)

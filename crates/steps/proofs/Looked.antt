@@ -1,12 +1,11 @@
 -- The partition that a command looks at is lent, sound, and long enough for the position; and its protection is what the tests were given.
 -- Assumes nothing.
-use Prim.Native.Nat.{ℕ, zero, suc, _≤_, _<_}
+use Prim.Native.Nat.{ℕ, _≤_, _<_}
 use native.Mathlib.Omega.{arith}
-use mathlib.Core.Path.{_≡_, refl, sym, ap, _∙_, subst}
-use mathlib.Core.Bool.{Bool, true, false, cond, not, _&&_}
-use mathlib.Core.Option.{none}
+use mathlib.Core.Path.{_≡_, refl, sym, _∙_}
+use mathlib.Core.Bool.{Bool, true, false, cond, _&&_}
 use mathlib.Core.List.{List, [], _∷_}
-use borrow.Author.Tests.{eq-eqb, ne-eqb, eqb-true, eqb-false, leb-true, leb-false, ltb-true, le-leb}
+use borrow.Author.Tests.{eq-eqb, ne-eqb, eqb-true, leb-true, leb-false, ltb-true}
 use lib.Dec.{eqb, leb, ltb}
 use lib.ListN.{length}
 use Rattle.objects.specs.Object.{largestBlock}
@@ -14,13 +13,13 @@ use Rattle.image.specs.Image.{trailerLength, count, sound, protected}
 use Rattle.image.proofs.Facts.{sound-parts}
 use Rattle.image.proofs.Tests.{both}
 use Rattle.record.specs.declared.drive.Drive.{Drive}
-use Rattle.record.specs.Record.{wellFormed, placed, emptyHanded, attentionKnown}
+use Rattle.record.specs.Record.{wellFormed, placed, attentionKnown}
 use Rattle.codes.specs.declared.operation.Operation.{Operation}
 use Rattle.codes.specs.declared.operation.Operation.the-variants.{TestUnitReady, Rewind, RequestSense, ReadBlockLimits, Read, Write, WriteFilemarks, Space, ModeSelect, Erase, ModeSense, LoadUnload, Locate, ReadPosition, NotServed}
 use Rattle.codes.specs.Fields.{changesPartition, partitionOf}
 use Rattle.cartridge.specs.Mount.{absent}
 use Rattle.commands.specs.Kinds.{among, writes}
-use Rattle.commands.specs.Act.{Seen, targetOf}
+use Rattle.commands.specs.Act.{targetOf}
 use Rattle.commands.specs.Call.{partition, looksAt, seenOf, nothing, seen, inserted}
 use Rattle.steps.specs.Stepped.{guardedNow}
 

@@ -1,13 +1,13 @@
 -- What a command knows when no test has stopped it: each row of the list is false.
 -- Assumes nothing.
-use Prim.Native.Nat.{ℕ, zero, suc, _≤_, _<_}
+use Prim.Native.Nat.{ℕ, _≤_}
 use native.Mathlib.Omega.{arith}
-use mathlib.Core.Path.{_≡_, refl, sym, ap, _∙_, subst}
+use mathlib.Core.Path.{_≡_, refl, sym, ap, _∙_}
 use mathlib.Core.Bool.{Bool, true, false, cond, not, _&&_, _||_}
-use mathlib.Core.Option.{Option, none, some}
+use mathlib.Core.Option.{none, some}
 use mathlib.Core.List.{List, [], _∷_}
 use borrow.Author.Tests.{ltb-false, not-false}
-use lib.Dec.{eqb, leb, ltb}
+use lib.Dec.{eqb, leb}
 use lib.ListN.{length}
 use Rattle.record.specs.declared.drive.Drive.{Drive}
 use Rattle.codes.specs.declared.operation.Operation.{Operation}
@@ -16,7 +16,7 @@ use Rattle.codes.specs.Codes.{codeOf, tooShort, operationOf, masksHold}
 use Rattle.codes.specs.Fields.{allocationOf, changesPartition, partitionOf}
 use Rattle.mode.specs.Mode.{listLengthKnown}
 use Rattle.commands.specs.Stop.{Stop, first}
-use Rattle.commands.specs.Kinds.{among, isServed, needsCartridge, writes}
+use Rattle.commands.specs.Kinds.{among, isServed, needsCartridge}
 use Rattle.commands.specs.Act.{Seen}
 use Rattle.commands.specs.Tests.{tests, taken, needed, fieldError}
 use Rattle.stops.proofs.Long.{served-long, locate-long}

@@ -1,15 +1,14 @@
 -- The step: what its act asks for, and how each end of it is the definition's.
 -- Assumes nothing.
-use Prim.Native.Nat.{ℕ, zero, suc, _≤_, _<_}
+use Prim.Native.Nat.{ℕ, _≤_}
 use native.Mathlib.Omega.{arith}
-use mathlib.Core.Path.{_≡_, refl, sym, ap, _∙_, subst}
-use mathlib.Core.Bool.{Bool, true, false, cond, not, _&&_}
-use mathlib.Core.Option.{Option, none, some}
+use mathlib.Core.Path.{_≡_, refl, sym, ap, _∙_}
+use mathlib.Core.Bool.{Bool, true, false, cond, _&&_}
+use mathlib.Core.Option.{none}
 use mathlib.Core.List.{List, [], _∷_}
-use borrow.Author.Tests.{eq-eqb, ne-eqb}
+use borrow.Author.Tests.{ne-eqb}
 use lib.Dec.{eqb, leb}
 use lib.ListN.{length}
-use Rattle.words.specs.Words.{over}
 use Rattle.objects.specs.Object.{largestBlock}
 use Rattle.answers.specs.declared.Answer.{Answer}
 use Rattle.answers.specs.Answers.{refused}
@@ -21,12 +20,12 @@ use Rattle.codes.specs.declared.operation.Operation.{Operation}
 use Rattle.codes.specs.declared.operation.Operation.the-variants.{Locate}
 use Rattle.codes.specs.Codes.{codeOf, tooShort, numberOf, operationOf}
 use Rattle.commands.specs.declared.deeds.Left.{Left}
-use Rattle.commands.specs.Stop.{refuse, attend, fault, first}
+use Rattle.commands.specs.Stop.{first}
 use Rattle.commands.specs.Kinds.{among, needsCartridge}
 use Rattle.commands.specs.Tests.{tests}
-use Rattle.commands.specs.Act.{Seen, Deed, unattended, targetOf, act}
-use Rattle.commands.specs.Call.{partition, looksAt, seenOf, nothing, seen, inserted, outcome, checkAnswer, stopped, statusOf, keptOf, changed, acted, decided, stepOf}
-use Rattle.commands.specs.Left.{leftBy, protectedOnly}
+use Rattle.commands.specs.Act.{unattended, targetOf}
+use Rattle.commands.specs.Call.{partition, looksAt, seenOf, nothing, seen, inserted, outcome, checkAnswer, stopped, changed, acted, decided, stepOf}
+use Rattle.commands.specs.Left.{protectedOnly}
 use Rattle.stops.specs.declared.Stop.{Stop}
 use Rattle.stops.specs.declared.Stop.the-variants.{Refuse, Attend, Fault, Pass}
 use Rattle.stops.specs.Stops.{stopOf}
@@ -36,7 +35,7 @@ use Rattle.steps.specs.Stepped.{outcomeOf, answerOf, guardedNow}
 use Rattle.steps.proofs.Acts.{Acts, Apart, named, leaves-all}
 use Rattle.steps.proofs.Alike.{tests-alike}
 use Rattle.steps.proofs.Passed.{passed}
-use Rattle.steps.proofs.Looked.{Loaded, loaded, small-block, sound-looked, place-looked, seen-loaded, seen-unloaded, guarded-alike}
+use Rattle.steps.proofs.Looked.{loaded, small-block, sound-looked, place-looked, seen-loaded, seen-unloaded, guarded-alike}
 
 -- ---- the partition looked at
 

@@ -1,15 +1,15 @@
 -- Where the image stands when the objects that fit have gone down: sound, of the same length, and its data ends where theirs does. And how many bytes
 -- they hold.
 -- Assumes nothing.
-use Prim.Native.Nat.{ℕ, zero, suc, _+_, _*_, _<_, _≤_}
+use Prim.Native.Nat.{ℕ, zero, suc, _+_, _*_, _≤_}
 use native.Mathlib.Nat.{add-zero, add-assoc, suc-mul, zero-mul}
 use native.Mathlib.Omega.{arith}
 use mathlib.Core.Bool.{Bool, true, false}
 use mathlib.Core.Path.{_≡_, refl, sym, ap, ap₂, _∙_, subst}
 use mathlib.Core.List.{List, [], _∷_}
-use lib.ListN.{length, take, drop, length-drop}
+use lib.ListN.{length, drop, length-drop}
 use lib.Seq.{length-take-le}
-use Rattle.objects.specs.Object.{Object, filemark, block, dataOf, bytesIn, largestBlock}
+use Rattle.objects.specs.Object.{Object, dataOf, bytesIn, largestBlock}
 use Rattle.objects.specs.Events.{put}
 use Rattle.image.specs.Image.{roomOf, fitsIn, count, endAt, room, fits}
 use Rattle.image.specs.Changes.{occur, occurs}
@@ -17,7 +17,7 @@ use Rattle.image.proofs.Facts.{Sound, ends-in}
 use Rattle.image.proofs.Placed.{Kept}
 use Rattle.image.proofs.Obeys.{Admits, obeys, put-next}
 use Rattle.transfer.specs.Transfer.{marksOf, blocksOf, fitting, putFrom}
-use Rattle.transfer.proofs.Going.{fitting-more, fitting-none, put-one}
+use Rattle.transfer.proofs.Going.{fitting-more, fitting-none}
 
 -- objects that a partition may hold
 unfoldable pub AllKept : List Object → Type 0

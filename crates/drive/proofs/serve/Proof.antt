@@ -1,4 +1,4 @@
--- `drive::serve` meets its contract: a walk of its MIR, by hand. The borrow is opened, the struct is copied out and passed to `steps::serve_by_value`, with the slices at their own lifetimes, shares and names, so that none of them has to come back; the struct of the result is stored where the old one stood, and the borrow is closed at it.
+-- `drive::serve` meets its contract: a walk of its compiled form, step by step. The borrow is opened, the struct is copied out and passed to `steps::serve_by_value`, with the slices at their own lifetimes, shares and names, so that none of them has to come back; the struct of the result is stored where the old one stood, and the borrow is closed at it.
 -- All that the proof knows of `serve_by_value` is that it meets its contract.
 -- Assumes nothing.
 use mathlib.Core.Path.{_≡_, refl, ap}

@@ -1,4 +1,4 @@
--- `lending::serve_lent` meets its contract: a walk of its MIR, by hand. The drive is put into a local, which is lent to `drive::serve` for a lifetime that is made for the call, and comes back at the last value that `serve` says.
+-- `lending::serve_lent` meets its contract: a walk of its compiled form, step by step. The drive is put into a local, which is lent to `drive::serve` for a lifetime that is made for the call, and comes back at the last value that `serve` says.
 -- All that the proof knows of `serve` is that it meets its contract.
 -- Assumes nothing.
 use mathlib.Core.Path.{_≡_, refl, ap, sym, subst}
