@@ -2,6 +2,7 @@
 #ifndef DRIVE_H
 #define DRIVE_H
 
+#include "blocks.h"
 #include "lend.h"
 #include "record.h"
 #include "stormtoggle.h"
@@ -30,11 +31,6 @@ static const struct tape {
     [UNSOUND] = {64, 2, 0x00, "b3 f"},
 };
 
-static inline size_t end_at(const uint8_t *image, size_t length, size_t number)
-{
-    return number == 0 ? 0 : get32(image + length - TRAILER - 4 * number) & ~FILEMARK;
-}
-
 /* Puts objects from a number on; blocks take the source's bytes one after the other, or bytes by their own number. */
 static inline void put_objects(uint8_t *image, size_t length, size_t number, const char *words, const uint8_t *source)
 {
@@ -57,10 +53,6 @@ static inline void put_objects(uint8_t *image, size_t length, size_t number, con
 
 /* ---- a case */
 
-struct bytes {
-    size_t length;
-    uint8_t at[36];
-};
 #define BYTES(...) {sizeof((uint8_t[]){__VA_ARGS__}), {__VA_ARGS__}}
 
 /* What CHECK CONDITION tells: byte 0 of the sense (0 stands for GOOD, and the empty sense), byte 2 and so on. */
@@ -102,25 +94,6 @@ struct edge {
 #define SET(block_length, position) LOADED(0x00, position, block_length)
 #define TWO(current, position) {1, 2, current, 0x00, position, 0, OLD_SENSE}
 #define BARE(attention, block_length) {0, 0, 0, attention, 0, block_length, OLD_SENSE}
-
-/* ---- command blocks */
-
-enum {
-    TEST_UNIT_READY = 0x00, REWIND = 0x01, REQUEST_SENSE = 0x03, READ_BLOCK_LIMITS = 0x05, READ = 0x08, WRITE = 0x0a,
-    WRITE_FILEMARKS = 0x10, SPACE = 0x11, INQUIRY = 0x12, MODE_SELECT = 0x15, ERASE = 0x19, MODE_SENSE = 0x1a,
-    LOAD_UNLOAD = 0x1b
-};
-
-/* Bits of byte 1, and what SPACE counts. */
-enum { IMMED = 0x01, FIXED = 0x01, SILI = 0x02, LONG = 0x01, ERASE_IMMED = 0x02, CP = 0x02, DBD = 0x08, PF = 0x10 };
-enum { BLOCKS = 0, FILEMARKS = 1, END_OF_DATA = 3 };
-
-#define BYTE(number, shift) ((uint8_t)((uint32_t)(number) >> (shift)))
-#define SIX(code, byte_1, number) {6, {code, byte_1, BYTE(number, 16), BYTE(number, 8), BYTE(number, 0), 0}}
-#define PAGE(byte_1, page, allocation) {6, {MODE_SENSE, byte_1, page, 0, allocation, 0}}
-#define LOCATE(byte_1, object, partition) \
-    {10, {0x2b, byte_1, 0, BYTE(object, 24), BYTE(object, 16), BYTE(object, 8), BYTE(object, 0), 0, partition, 0}}
-#define READ_POSITION(form) {10, {0x34, form}}
 
 /* ---- the call */
 

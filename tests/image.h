@@ -36,6 +36,12 @@ static inline void set_entry(uint8_t *image, size_t length, size_t object, uint3
     put32(image + length - TRAILER - 4 * (object + 1), entry);
 }
 
+/* end(n): where the data of the objects before n ends. */
+static inline size_t end_at(const uint8_t *image, size_t length, size_t number)
+{
+    return number == 0 ? 0 : get32(image + length - TRAILER - 4 * number) & ~FILEMARK;
+}
+
 /* Lays the trailer of so many objects. */
 static inline void lay_trailer(uint8_t *image, size_t length, size_t objects, uint32_t flags)
 {

@@ -3,12 +3,7 @@
 # LIBRARY names another archive than the one that is built here from the sources.
 set -u
 cd "$(dirname "$0")/../.." || exit 2
-. tests/host.sh
-mkdir -p target/host || exit 2
-if [ -z "${LIBRARY-}" ]; then
-    LIBRARY=target/staticlib/libstormtoggle.a
-    rt staticlib stormtoggle || exit 2
-fi
+. tests/library.sh
 
 slips=(
     "none"
@@ -23,25 +18,4 @@ slips=(
     "SILI hides overlength with a nonzero block length"
     "N cut to 16 bits"
 )
-
-# Without a slip nothing may differ; with one, something must.
-failed=0
-for fault in "${!slips[@]}"; do
-    program=target/host/differential-fault-$fault
-    "$compiler" "${flags[@]}" -DFAULT="$fault" -O2 -o "$program" tests/differential/differential.c "$LIBRARY" || exit 2
-    said=$("${runner[@]}" "$program" 1 500000)
-    status=$?
-    first=$(grep -om 1 'call [0-9]*, ' <<<"$said")
-    differ=-1
-    [[ $said =~ \ ([0-9]+)\ mismatches ]] && differ=${BASH_REMATCH[1]}
-    if [ "$fault" -eq 0 ] && [ "$status" -eq 0 ] && [ "$differ" -eq 0 ]; then
-        found="nothing differs"
-    elif [ "$fault" -gt 0 ] && [ "$status" -eq 1 ] && [ "$differ" -gt 0 ]; then
-        found="found, first at ${first%, }"
-    else
-        found="FAILED: status $status, mismatches $differ"
-        failed=1
-    fi
-    echo "fault $fault, ${slips[fault]}: $found"
-done
-exit "$failed"
+run_with_slips tests/differential/differential.c 500000 "${slips[@]}"

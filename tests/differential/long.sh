@@ -4,13 +4,5 @@
 set -u
 calls=${1-5000000} seed=${2-$(date +%s)}
 cd "$(dirname "$0")/../.." || exit 2
-. tests/host.sh
-mkdir -p target/host || exit 2
-if [ -z "${LIBRARY-}" ]; then
-    LIBRARY=target/staticlib/libstormtoggle.a
-    rt staticlib stormtoggle || exit 2
-fi
-
-program=target/host/differential-long
-"$compiler" "${flags[@]}" -O2 -o "$program" tests/differential/differential.c "$LIBRARY" || exit 2
-exec "${runner[@]}" "$program" "$seed" "$calls"
+. tests/library.sh
+run_for_long tests/differential/differential.c "$calls" "$seed"

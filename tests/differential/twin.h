@@ -2,32 +2,11 @@
 #ifndef TWIN_H
 #define TWIN_H
 
+#include "../draw.h"
 #include "model_commands.h"
 #include "stormtoggle.h"
 #include <signal.h>
 #include <sys/mman.h>
-
-/* ---- the work's own random numbers */
-
-static uint64_t seed, random_state;
-
-static inline uint64_t draw_64(void)
-{
-    uint64_t mixed = random_state += UINT64_C(0x9e3779b97f4a7c15);
-    mixed = (mixed ^ mixed >> 30) * UINT64_C(0xbf58476d1ce4e5b9);
-    mixed = (mixed ^ mixed >> 27) * UINT64_C(0x94d049bb133111eb);
-    return mixed ^ mixed >> 31;
-}
-
-static inline uint32_t draw(uint64_t bound)
-{
-    return (uint32_t)(draw_64() % bound);
-}
-
-static inline int one_in(uint32_t chances)
-{
-    return draw(chances) == 0;
-}
 
 /* ---- the slices */
 

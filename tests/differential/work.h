@@ -44,17 +44,6 @@ static inline uint64_t seen_zone(void)
     return length_is_lawful(seen.tape.length) ? (seen.tape.length - 16) / 16 : 0;
 }
 
-static inline uint64_t near(uint64_t number)
-{
-    uint64_t shifted = number + draw(5);
-    return shifted < 2 ? 0 : shifted - 2;
-}
-
-static inline uint64_t less(uint64_t from, uint64_t number)
-{
-    return from < number ? 0 : from - number;
-}
-
 /* ---- the numbers in a command block */
 
 /* Products of 2^32 and more, among them those whose low 32 bits are 0, and merely large ones. */

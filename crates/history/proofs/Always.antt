@@ -1,0 +1,264 @@
+-- "always so": a record and the cartridge that it was mounted with, used with each other alone, are never refused with 4.
+-- Assumes nothing.
+use Prim.Native.Nat.{ℕ, suc, _+_, _≤_, _<_, zero-le}
+use native.Mathlib.Omega.{arith}
+use mathlib.Core.Path.{_≡_, refl, sym, ap, _∙_, subst}
+use mathlib.Core.Bool.{Bool, true, false, cond, not, _&&_, _||_}
+use mathlib.Core.Option.{none, some}
+use mathlib.Core.List.{List, [], _∷_}
+use borrow.Author.Tests.{not-true, eqb-true, eqb-false, leb-false}
+use lib.Dec.{eqb, leb}
+use lib.ListN.{length, take, length-take}
+use Rattle.answers.specs.declared.Answer.{Answer}
+use Rattle.answers.specs.Answers.{recordFault, alreadyLoaded, unsoundImage, wrongLength, refused, done, left}
+use Rattle.objects.specs.Object.{Object}
+use Rattle.objects.specs.Events.{happen, happens}
+use Rattle.image.specs.Image.{rightLength, sound, count, objects}
+use Rattle.image.specs.Changes.{occurs}
+use Rattle.image.specs.Services.{faultOf, protectCall}
+use Rattle.image.proofs.Facts.{Sound, sound-parts}
+use Rattle.image.proofs.Tests.{both}
+use Rattle.image.proofs.Objects.{length-objects}
+use Rattle.record.specs.declared.drive.Drive.{Drive}
+use Rattle.record.specs.Record.{attentionKnown, decodeOf, encodeOf, wellRecord, mountedDrive, withSense}
+use Rattle.codes.specs.declared.operation.Operation.{Operation}
+use Rattle.codes.specs.declared.operation.Operation.the-variants.{TestUnitReady, Rewind, RequestSense, ReadBlockLimits, Read, Write, WriteFilemarks, Space, ModeSelect, Erase, ModeSense, LoadUnload, Locate, ReadPosition, NotServed}
+use Rattle.codes.specs.Codes.{codeOf, operationOf}
+use Rattle.codes.specs.Fields.{changesPartition, partitionOf}
+use Rattle.cartridge.specs.Mount.{absent, partitionsOf, rightLengths, bothSound, mountFault, mountCall}
+use Rattle.transfer.specs.Transfer.{putFrom}
+use Rattle.commands.specs.Stop.{refuse, first}
+use Rattle.commands.specs.Kinds.{among, needsCartridge}
+use Rattle.commands.specs.Act.{Seen, at, targetOf, goesDown, act, eventsOf}
+use Rattle.commands.specs.Tests.{tests}
+use Rattle.commands.specs.Call.{Result, partition, looksAt, seen, seenOf, inserted, changed, acted, written, keptOf, commandTests, commandCall}
+use Rattle.commands.proofs.Exact.{refused-4}
+use Rattle.image.proofs.Judged.{never-both}
+use Rattle.steps.proofs.Passed.{Passed, passed}
+use Rattle.history.specs.History.{Slot, slot0, slot1, Cartridge, cartridge, protection, slicesLeft, after, ends}
+use Rattle.history.specs.Demand3.{NoFault}
+use Rattle.history.specs.Always.{Use, sends, mounts, protects, callsOf, recordUsed, AlwaysSo}
+use Rattle.history.proofs.Faultless.{Cart, no-cart, one-part, two-parts, Well, well-test, fault-free, no-fault, empty-whole}
+use Rattle.history.proofs.Turned.{offered-kept, put-place, cut-turned}
+use Rattle.history.proofs.Ended.{Ended, by-number, by-sense, by-act, ended, calm-well}
+use Rattle.history.proofs.Acted.{inside, seen-loaded, acts, unaltered, sees, shaped, turned, alters, writing-drive, marking-drive, kept-whole}
+use Rattle.history.proofs.Told.{protect-turned}
+use Rattle.history.proofs.Moved.{Moves, current-in, moved-cart, moved-well, loaded-well, selected-well, reading-moves, spacing-moves, located-well}
+
+-- ---- a command that acts
+
+as-left : (e : Drive) (r : Result) (c : Cartridge) → slicesLeft r ≡ c → Well e (c .part0) (c .part1) → Well e (r .part0) (r .part1)
+as-left e r c h k = subst (λ (x : Cartridge). Well e (x .part0) (x .part1)) (sym h) k
+
+from-moves : (d : Drive) (p0 p1 : List ℕ) (n : ℕ) (e : Drive) → Well d p0 p1 → (d .loaded ≡ 0 → ⊥) → Moves d n e → n ≡ count (partition (d .current) p0 p1) → Well e p0 p1
+from-moves d p0 p1 n e w l m h = rw (m .is) (moved-well d p0 p1 (m .to) w l (omega (arith, m .within)))
+
+module _ (rec cmd p0 p1 sent received : List ℕ) (w : Well (decodeOf rec) p0 p1) where
+  abbrev Passes : Operation → Type 0
+  Passes o = first (tests o (decodeOf rec) cmd (seen o (decodeOf rec) cmd p0 p1) sent received) ≡ none
+
+  abbrev After : Operation → Type 0
+  After o = Well ((act o (decodeOf rec) cmd sent (seen o (decodeOf rec) cmd p0 p1)) .drive) ((written rec (acted o (decodeOf rec) cmd p0 p1 sent received (seen o (decodeOf rec) cmd p0 p1))) .part0) ((written rec (acted o (decodeOf rec) cmd p0 p1 sent received (seen o (decodeOf rec) cmd p0 p1))) .part1)
+
+  put-after : (o : Operation) (eo : operationOf (codeOf cmd) ≡ o) (l : decodeOf rec .loaded ≡ 0 → ⊥) (nl : (d : Drive) → looksAt o d cmd ≡ d .current)
+      (q : Passed o (decodeOf rec) cmd (seen o (decodeOf rec) cmd p0 p1) sent received) (ne : among (Erase ∷ []) o ≡ false)
+      (ev : (v : Seen) → eventsOf o (decodeOf rec) cmd sent v ≡ putFrom (decodeOf rec .position) (goesDown o (decodeOf rec) cmd sent v))
+      (dr : (v : Seen) → (act o (decodeOf rec) cmd sent v) .drive ≡ at (decodeOf rec) (decodeOf rec .position + length (goesDown o (decodeOf rec) cmd sent v))) → After o
+  put-after o eo l nl q ne ev dr =
+      let i = inside (decodeOf rec) p0 p1 (w .cart) l in
+      let p : List ℕ = partition (decodeOf rec .current) p0 p1 in
+      let os : List Object = goesDown o (decodeOf rec) cmd sent (seenOf p) in
+      let t = turned rec cmd p0 p1 sent received o eo i nl (w .small) q ne ev dr in
+      let a = put-place (decodeOf rec) cmd sent p (i .right) (i .place) o (offered-kept o (decodeOf rec) cmd sent (w .small) (q .fields) (q .sends)) in
+      let c = moved-cart (decodeOf rec) p0 p1 (occurs (putFrom (decodeOf rec .position) os)) (decodeOf rec .position + length os) (w .cart) l (t .sound) a in
+      let e : (act o (decodeOf rec) cmd sent (seen o (decodeOf rec) cmd p0 p1)) .drive ≡ at (decodeOf rec) (decodeOf rec .position + length os)
+      = ap (λ (v : Seen). (act o (decodeOf rec) cmd sent v) .drive) (sees rec cmd p0 p1 sent received o eo i nl) ∙ dr (seenOf p) in
+      as-left _ (acts rec cmd p0 p1 sent received o eo) _ (shaped rec cmd p0 p1 sent received o eo i nl (occurs (putFrom (decodeOf rec .position) os)) (alters rec cmd p0 p1 sent received o eo i nl (w .small) q ne ev dr))
+      (rw e (record { attention = w .attention; small = w .small; cart = c }))
+
+  -- one that alters nothing on a partition
+  idle-after : (o : Operation) (eo : operationOf (codeOf cmd) ≡ o) → ((v : Seen) (p : List ℕ) → changed o (decodeOf rec) cmd sent v p ≡ p) → Well ((act o (decodeOf rec) cmd sent (seen o (decodeOf rec) cmd p0 p1)) .drive) p0 p1 → After o
+  idle-after o eo c k = as-left _ (acts rec cmd p0 p1 sent received o eo) _ (unaltered rec cmd p0 p1 sent received o eo c) k
+
+  module _ (o : Operation) (eo : operationOf (codeOf cmd) ≡ o) (nl : (d : Drive) → looksAt o d cmd ≡ d .current) (l : decodeOf rec .loaded ≡ 0 → ⊥) where
+    moves-after : ((v : Seen) → decodeOf rec .position ≤ length (v .objects) → Moves (decodeOf rec) (length (v .objects)) ((act o (decodeOf rec) cmd sent v) .drive)) → Well ((act o (decodeOf rec) cmd sent (seen o (decodeOf rec) cmd p0 p1)) .drive) p0 p1
+    unfolding seenOf
+    moves-after m =
+        let i = inside (decodeOf rec) p0 p1 (w .cart) l in
+        let p : List ℕ = partition (decodeOf rec .current) p0 p1 in
+        rw (sees rec cmd p0 p1 sent received o eo i nl) (from-moves (decodeOf rec) p0 p1 (length (objects p)) _ w l (m (seenOf p) (omega (arith, i .place, length-objects p))) (length-objects p))
+
+  target-in : (d : Drive) → among (Locate ∷ []) Locate && changesPartition cmd && leb (d .partitions) (partitionOf cmd) ≡ false → d .current < d .partitions → targetOf d cmd < d .partitions
+  unfolding targetOf
+  target-in d e h = go (changesPartition cmd) e
+    where
+      go : (t : Bool) → t && leb (d .partitions) (partitionOf cmd) ≡ false → cond t (partitionOf cmd) (d .current) < d .partitions
+      go true q = leb-false (d .partitions) (partitionOf cmd) q
+      go false q = h
+
+  locate-after : operationOf (codeOf cmd) ≡ Locate → Passes Locate → Well ((act Locate (decodeOf rec) cmd sent (seen Locate (decodeOf rec) cmd p0 p1)) .drive) p0 p1
+  unfolding act seenOf looksAt
+  locate-after e q =
+      let k = passed Locate (decodeOf rec) cmd (seen Locate (decodeOf rec) cmd p0 p1) sent received q in
+      let l = eqb-false (decodeOf rec .loaded) 0 (k .ready) in
+      let i = inside (decodeOf rec) p0 p1 (w .cart) l in
+      let p : List ℕ = partition (targetOf (decodeOf rec) cmd) p0 p1 in
+      rw (seen-loaded Locate (decodeOf rec) cmd p0 p1 (i .is)) (located-well (decodeOf rec) p0 p1 cmd (seenOf p) w l (target-in (decodeOf rec) (k .there) (current-in (decodeOf rec) p0 p1 (w .cart) l)) (length-objects p))
+
+  erase-after : operationOf (codeOf cmd) ≡ Erase → Passes Erase → After Erase
+  unfolding act looksAt happens happen
+  erase-after e q =
+      let k = passed Erase (decodeOf rec) cmd (seen Erase (decodeOf rec) cmd p0 p1) sent received q in
+      let l = eqb-false (decodeOf rec .loaded) 0 (k .ready) in
+      let i = inside (decodeOf rec) p0 p1 (w .cart) l in
+      let p : List ℕ = partition (decodeOf rec .current) p0 p1 in
+      let v : Seen = seen Erase (decodeOf rec) cmd p0 p1 in
+      let t = cut-turned (decodeOf rec) cmd sent p (i .right) (i .place) v in
+      let n : length (objects (changed Erase (decodeOf rec) cmd sent v p)) ≡ length (take (decodeOf rec .position) (objects p)) = ap length (t .makes) in
+      let c = moved-cart (decodeOf rec) p0 p1 (changed Erase (decodeOf rec) cmd sent v) (decodeOf rec .position) (w .cart) l (t .sound)
+      (omega (arith, n, length-take (decodeOf rec .position) (objects p), length-objects p, length-objects (changed Erase (decodeOf rec) cmd sent v p), i .place)) in
+      as-left _ (acts rec cmd p0 p1 sent received Erase e) _ (shaped rec cmd p0 p1 sent received Erase e i (λ d. refl) (changed Erase (decodeOf rec) cmd sent v) (λ p. refl))
+      (record { attention = w .attention; small = w .small; cart = c })
+
+  is-loaded : (o : Operation) → needsCartridge o ≡ true → Passes o → decodeOf rec .loaded ≡ 0 → ⊥
+  is-loaded o n q = eqb-false (decodeOf rec .loaded) 0 (rw n at (passed o (decodeOf rec) cmd (seen o (decodeOf rec) cmd p0 p1) sent received q .ready))
+
+  acts-after : (o : Operation) → operationOf (codeOf cmd) ≡ o → Passes o → After o
+  unfolding act changed eventsOf occurs looksAt
+  acts-after Write e q = put-after Write e (is-loaded Write refl q) (λ d. refl) (passed Write (decodeOf rec) cmd (seen Write (decodeOf rec) cmd p0 p1) sent received q) refl (λ v. refl) (λ v. writing-drive (decodeOf rec) cmd sent v)
+  acts-after WriteFilemarks e q = put-after WriteFilemarks e (is-loaded WriteFilemarks refl q) (λ d. refl) (passed WriteFilemarks (decodeOf rec) cmd (seen WriteFilemarks (decodeOf rec) cmd p0 p1) sent received q) refl (λ v. refl) (λ v. marking-drive (decodeOf rec) cmd sent v)
+  acts-after Erase e q = erase-after e q
+  acts-after TestUnitReady e q = idle-after TestUnitReady e (λ v p. refl) w
+  acts-after Rewind e q = idle-after Rewind e (λ v p. refl) (moved-well (decodeOf rec) p0 p1 0 w (is-loaded Rewind refl q) zero-le)
+  acts-after RequestSense e q = idle-after RequestSense e (λ v p. refl) (calm-well (decodeOf rec) p0 p1 w)
+  acts-after ReadBlockLimits e q = idle-after ReadBlockLimits e (λ v p. refl) w
+  acts-after Read e q = idle-after Read e (λ v p. refl) (moves-after Read e (λ d. refl) (is-loaded Read refl q) (λ v h. reading-moves (decodeOf rec) cmd v h))
+  acts-after Space e q = idle-after Space e (λ v p. refl) (moves-after Space e (λ d. refl) (is-loaded Space refl q) (λ v h. spacing-moves (decodeOf rec) cmd v h))
+  acts-after ModeSelect e q = idle-after ModeSelect e (λ v p. refl) (selected-well (decodeOf rec) p0 p1 cmd sent w)
+  acts-after ModeSense e q = idle-after ModeSense e (λ v p. refl) w
+  acts-after LoadUnload e q = idle-after LoadUnload e (λ v p. refl) (loaded-well (decodeOf rec) p0 p1 cmd w (is-loaded LoadUnload refl q))
+  acts-after Locate e q = idle-after Locate e (λ v p. refl) (locate-after e q)
+  acts-after ReadPosition e q = idle-after ReadPosition e (λ v p. refl) w
+  acts-after NotServed e q = idle-after NotServed e (λ v p. refl) w
+
+-- ---- every call of a command
+
+abbrev Faultless : Result → Type 0
+Faultless r = NoFault (r .rec) (slicesLeft r)
+
+pub command-faultless : (rec cmd p0 p1 sent received : List ℕ) → NoFault rec (cartridge p0 p1) → Faultless (commandCall rec cmd p0 p1 sent received)
+unfolding acted
+command-faultless rec cmd p0 p1 sent received h = go (ended rec cmd p0 p1 sent received)
+  where
+    go : Ended rec cmd p0 p1 sent received → Faultless (commandCall rec cmd p0 p1 sent received)
+    go (by-number n k f e) = subst Faultless (sym e) h
+    go (by-sense z f x b w p l e) = subst Faultless (sym e) (no-fault x b p0 p1 w l)
+    go (by-act f w q e) =
+        let o : Operation = operationOf (codeOf cmd) in
+        let x = act o (decodeOf rec) cmd sent (seen o (decodeOf rec) cmd p0 p1) in
+        let r : Result = written rec (acted o (decodeOf rec) cmd p0 p1 sent received (seen o (decodeOf rec) cmd p0 p1)) in
+        let y : wellRecord (encodeOf (withSense (x .drive) (keptOf (x .tells)))) && inserted (decodeOf (encodeOf (withSense (x .drive) (keptOf (x .tells))))) (r .part0) (r .part1) ≡ true
+        = no-fault (x .drive) (keptOf (x .tells)) (r .part0) (r .part1) (acts-after rec cmd p0 p1 sent received w o refl q) (kept-whole (x .tells)) in
+        subst Faultless (sym e) y
+
+-- and no command is refused with 4
+pub never-four : (rec cmd p0 p1 sent received : List ℕ) → NoFault rec (cartridge p0 p1) → commandCall rec cmd p0 p1 sent received .answer .refusal ≡ 4 → ⊥
+unfolding acted commandTests
+never-four rec cmd p0 p1 sent received h k = go (ended rec cmd p0 p1 sent received)
+  where
+    go : Ended rec cmd p0 p1 sent received → ⊥
+    go (by-number n l f e) =
+        let q : n ≡ 4 = sym (ap (λ (r : Result). r .answer .refusal) e) ∙ k in
+        let t : not (wellRecord rec && inserted (decodeOf rec) p0 p1) ≡ true = (refused-4 rec cmd p0 p1 sent received .0 (f ∙ ap (λ (x : ℕ). some (refuse x)) q)) .1 in
+        never-both h (not-true (wellRecord rec && inserted (decodeOf rec) p0 p1) t)
+    go (by-sense z f x b w p l e) = let q : _≡_ {A = ℕ} 0 4 = sym (ap (λ (r : Result). r .answer .refusal) e) ∙ k in omega arith
+    go (by-act f w q e) = let q : _≡_ {A = ℕ} 0 4 = sym (ap (λ (r : Result). r .answer .refusal) e) ∙ k in omega arith
+
+-- ---- mount and protection
+
+mounted-cart : (p0 p1 : List ℕ) → sound p0 ≡ true → (t : Bool) → absent p1 ≡ t → t || sound p1 ≡ true → Cart (mountedDrive (cond t 1 2)) p0 p1
+unfolding mountedDrive
+mounted-cart p0 p1 s true e h = one-part refl refl refl (sound-parts p0 s) (eqb-true (length p1) 0 e) zero-le
+mounted-cart p0 p1 s false e h = two-parts refl refl (omega arith) (sound-parts p0 s) (sound-parts p1 h) zero-le
+
+mounted-faultless : (p0 p1 : List ℕ) → bothSound p0 p1 ≡ true → NoFault (encodeOf (mountedDrive (partitionsOf p1))) (cartridge p0 p1)
+unfolding bothSound mountedDrive attentionKnown withSense
+mounted-faultless p0 p1 h =
+    let b = both _ _ h in
+    let c = mounted-cart p0 p1 (b .0) (absent p1) refl (b .1) in
+    let w : Well (mountedDrive (partitionsOf p1)) p0 p1 = record { attention = refl; small = omega arith; cart = c } in
+    no-fault (mountedDrive (partitionsOf p1)) (mountedDrive (partitionsOf p1) .sense) p0 p1 w empty-whole
+
+mount-sound : (rec p0 p1 : List ℕ) → mountFault rec p0 p1 ≡ 0 → bothSound p0 p1 ≡ true
+unfolding mountFault
+mount-sound rec p0 p1 h = go (wellRecord rec) (eqb (decodeOf rec .loaded) 1) (rightLengths p0 p1) (bothSound p0 p1) h
+  where
+    go : (a b c d : Bool) → cond (not a) recordFault (cond b alreadyLoaded (cond (not c) wrongLength (cond (not d) unsoundImage 0))) ≡ 0 → d ≡ true
+    go true false true true h = refl
+    go true false true false h = absurd (let z : _≡_ {A = ℕ} unsoundImage 0 = h in omega arith)
+    go true false false d h = absurd (let z : _≡_ {A = ℕ} wrongLength 0 = h in omega arith)
+    go true true c d h = absurd (let z : _≡_ {A = ℕ} alreadyLoaded 0 = h in omega arith)
+    go false b c d h = absurd (let z : _≡_ {A = ℕ} recordFault 0 = h in omega arith)
+
+mount-faultless : (rec : List ℕ) (c : Cartridge) → NoFault rec c → NoFault ((mountCall rec (c .part0) (c .part1)) .lent) c
+unfolding mountCall
+mount-faultless rec c h = go (eqb (mountFault rec (c .part0) (c .part1)) 0) refl
+  where
+    go : (t : Bool) → eqb (mountFault rec (c .part0) (c .part1)) 0 ≡ t
+        → NoFault ((cond t (left done (encodeOf (mountedDrive (partitionsOf (c .part1))))) (left (refused (mountFault rec (c .part0) (c .part1))) rec)) .lent) c
+    go true e = mounted-faultless (c .part0) (c .part1) (mount-sound rec (c .part0) (c .part1) (eqb-true (mountFault rec (c .part0) (c .part1)) 0 e))
+    go false e = h
+
+done-faultless : (rec : List ℕ) (c : Cartridge) → (mountCall rec (c .part0) (c .part1)) .answer ≡ done → NoFault ((mountCall rec (c .part0) (c .part1)) .lent) c
+unfolding mountCall
+done-faultless rec c h = go (eqb (mountFault rec (c .part0) (c .part1)) 0) refl h
+  where
+    go : (t : Bool) → eqb (mountFault rec (c .part0) (c .part1)) 0 ≡ t
+        → (cond t (left done (encodeOf (mountedDrive (partitionsOf (c .part1))))) (left (refused (mountFault rec (c .part0) (c .part1))) rec)) .answer ≡ done
+        → NoFault ((cond t (left done (encodeOf (mountedDrive (partitionsOf (c .part1))))) (left (refused (mountFault rec (c .part0) (c .part1))) rec)) .lent) c
+    go true e a = mounted-faultless (c .part0) (c .part1) (mount-sound rec (c .part0) (c .part1) (eqb-true (mountFault rec (c .part0) (c .part1)) 0 e))
+    go false e a = absurd (eqb-false (mountFault rec (c .part0) (c .part1)) 0 e (ap (λ (y : Answer). y .refusal) a))
+
+protect-count : (on : Bool) (p : List ℕ) → Sound p → count ((protectCall on p) .lent) ≡ count p
+unfolding happens
+protect-count on p k = sym (length-objects ((protectCall on p) .lent)) ∙ ap length (protect-turned on p k .makes) ∙ length-objects p
+
+protect-absent : (on : Bool) (p : List ℕ) → length p ≡ 0 → length ((protectCall on p) .lent) ≡ 0
+protect-absent on [] e = unfold protectCall faultOf rightLength in refl
+protect-absent on (x ∷ p) e = absurd (let z : suc (length p) ≡ 0 = e in omega arith)
+
+protect-cart : (s : Slot) (on : Bool) (d : Drive) (c : Cartridge) → Cart d (c .part0) (c .part1) → Cart d (after (protection s on) c .part0) (after (protection s on) c .part1)
+unfolding after
+protect-cart slot0 on d c (no-cart a b e f) = no-cart a b e f
+protect-cart slot1 on d c (no-cart a b e f) = no-cart a b e f
+protect-cart slot0 on d c (one-part a b e s l h) = one-part a b e (protect-turned on (c .part0) s .sound) l (rw (e, protect-count on (c .part0) s) (rw e at h))
+protect-cart slot1 on d c (one-part a b e s l h) = one-part a b e s (protect-absent on (c .part1) l) (rw e (rw e at h))
+protect-cart slot0 on d c (two-parts a b e s t h) = two-parts a b e (protect-turned on (c .part0) s .sound) t (go (eqb (d .current) 1) h)
+  where
+    go : (x : Bool) → d .position ≤ count (cond x (c .part1) (c .part0)) → d .position ≤ count (cond x (c .part1) ((protectCall on (c .part0)) .lent))
+    go true k = k
+    go false k = rw (protect-count on (c .part0) s) k
+protect-cart slot1 on d c (two-parts a b e s t h) = two-parts a b e s (protect-turned on (c .part1) t .sound) (go (eqb (d .current) 1) h)
+  where
+    go : (x : Bool) → d .position ≤ count (cond x (c .part1) (c .part0)) → d .position ≤ count (cond x ((protectCall on (c .part1)) .lent) (c .part0))
+    go true k = rw (protect-count on (c .part1) t) k
+    go false k = k
+
+protect-faultless : (s : Slot) (on : Bool) (rec : List ℕ) (c : Cartridge) → NoFault rec c → NoFault rec (after (protection s on) c)
+protect-faultless s on rec c h =
+    let a = both (wellRecord rec) (inserted (decodeOf rec) (c .part0) (c .part1)) h in
+    let w = fault-free rec (c .part0) (c .part1) h in
+    let t = well-test (decodeOf rec) (after (protection s on) c .part0) (after (protection s on) c .part1) (record { attention = w .attention; small = w .small; cart = protect-cart s on (decodeOf rec) c (w .cart) }) in
+    rw (a .0, t .1) refl
+
+-- ---- every use
+
+used-faultless : (us : List Use) (rec : List ℕ) (c : Cartridge) → NoFault rec c → NoFault (recordUsed us rec c) (ends (callsOf us rec c) c)
+unfolding recordUsed callsOf ends
+used-faultless [] rec c h = h
+used-faultless (sends cmd sent received ∷ us) rec c h = used-faultless us _ _ (unfold after in command-faultless rec cmd (c .part0) (c .part1) sent received h)
+used-faultless (mounts ∷ us) rec c h = used-faultless us _ _ (unfold after in mount-faultless rec c h)
+used-faultless (protects s on ∷ us) rec c h = used-faultless us _ _ (protect-faultless s on rec c h)
+
+pub always-so : (rec : List ℕ) (c : Cartridge) → (mountCall rec (c .part0) (c .part1)) .answer ≡ done → (us : List Use) → AlwaysSo rec c us
+always-so rec c h us = used-faultless us ((mountCall rec (c .part0) (c .part1)) .lent) c (done-faultless rec c h)

@@ -1,0 +1,14 @@
+pub mod Lives
+pub mod Lists
+pub mod Turned
+pub mod Faultless
+pub mod Ended
+pub mod Acted
+pub mod Answered
+pub mod Told
+pub mod Moved
+pub mod Always
+pub mod ReadBack
+pub mod Reached
+pub mod Proved
+pub mod Tiles

@@ -1,0 +1,57 @@
+-- The two lives of specs/Lives.antt, computed call by call from the definitions.
+-- Assumes nothing.
+use Prim.Native.Nat.{ℕ}
+use native.Mathlib.Omega.{arith}
+use mathlib.Core.Path.{_≡_, refl}
+use mathlib.Core.Logic.{inl, inr}
+use Rattle.words.specs.Words.{be, bytes, over, zeros}
+use Rattle.words.specs.Signed.{signed, wrapped}
+use Rattle.objects.specs.Object.{bytesIn, filemarksIn}
+use Rattle.objects.specs.Movement as M
+use Rattle.image.specs.Image.{count, flags, protected, directory, size, entry, topBit, low31, endAt, follows, ordered, rightLength, sound, objectAt, upto, objects}
+use Rattle.image.specs.Changes.{retitle, entryOf, enter, occur, occurs, cleared, blank, protect, reflag}
+use Rattle.image.specs.Services.{blankCall, faultOf, protectCall}
+use Rattle.sense.specs.Sense.{senseBytes, partsOf, reports, told, emptySense, attentionSense}
+use Rattle.record.specs.Record.{decodeOf, encodeOf, attentionKnown, emptyHanded, placed, wellFormed, wellRecord, freshDrive, mountedDrive, withSense, unloaded, loadedAnew}
+use Rattle.codes.specs.Codes.{tooShort, inMasks, masksHold}
+use Rattle.codes.specs.Fields.{fixedOf, siliOf, transferOf, spaceCodeOf, spaceCountOf, longOf, loadOf, pfOf, allocationOf}
+use Rattle.cartridge.specs.Mount.{rightLengths, bothSound, mountFault, mountCall}
+use Rattle.mode.specs.Mode.{listLengthKnown, headerRight, descriptorRight, listRight}
+use Rattle.transfer.specs.Transfer.{blocksOf, marksOf, fitting, putFrom}
+use Rattle.commands.specs.Stop.{first}
+use Rattle.commands.specs.Act.{hidden, readVariable, reading, offered, goesDown, wrote, writing, marking, spaceTells, spacing, selecting, replyOf, act, eventsOf}
+use Rattle.commands.specs.Tests.{bytesAsked, fieldError, taken, needed, tests}
+use Rattle.commands.specs.Call.{looksAt, seenOf, seen, inserted, stopped, statusOf, keptOf, changed, acted, decided, commandTests, commandCall}
+use Rattle.history.specs.History.{after, caused, events, ends, past}
+use Rattle.history.specs.Demand3.{metOf, readings}
+use Rattle.history.specs.Tiles.{AllHarmless}
+use Rattle.history.specs.Always.{callsOf, recordUsed}
+use Rattle.history.specs.Lives.{blank64, uses, oneDrive, severalDrives, Computed}
+
+pub computed : Computed
+unfolding blank64 uses oneDrive severalDrives AllHarmless callsOf recordUsed after caused events ends past metOf readings partsOf
+    hidden readVariable reading
+    be bytes over signed wrapped bytesIn filemarksIn M.walk M.before M.ahead M.astern M.space M.residue
+    count flags protected directory size entry topBit low31 endAt follows ordered rightLength sound objectAt upto objects retitle entryOf enter occur occurs cleared blank protect reflag
+    blankCall faultOf protectCall rightLengths bothSound mountFault mountCall senseBytes reports told emptySense attentionSense
+    decodeOf encodeOf attentionKnown emptyHanded placed wellFormed wellRecord freshDrive mountedDrive withSense unloaded loadedAnew tooShort inMasks masksHold
+    fixedOf siliOf transferOf spaceCodeOf spaceCountOf longOf loadOf pfOf allocationOf listLengthKnown headerRight descriptorRight listRight
+    first blocksOf marksOf fitting putFrom offered goesDown wrote writing marking spaceTells spacing selecting replyOf act eventsOf
+    bytesAsked fieldError taken needed tests looksAt seenOf seen inserted stopped statusOf keptOf changed acted decided commandTests commandCall
+computed = record {
+  one = (refl, refl);
+  first = (refl, refl);
+  second = (refl, refl);
+  one-blank = record { lent = zeros 64; answered = refl; left = refl };
+  first-blank = record { lent = zeros 64; answered = refl; left = refl };
+  second-blank = record { lent = zeros 64; answered = refl; left = refl };
+  one-mounted = record { no-fault = refl; loaded = refl; no-attention = refl };
+  one-begins = record { current = refl; position = refl };
+  mounted = record { no-fault = refl; loaded = refl; no-attention = refl };
+  begins = record { current = refl; position = refl };
+  one-read = refl;
+  read = refl;
+  tile-put = record { here = refl; is = refl; some-bytes = omega arith; carried = omega arith };
+  mark-put = record { here = refl; is = refl; asked = omega arith; moved = omega arith };
+  harmless = (inl refl, (tt, (tt, (inr (λ q. let z : _≡_ {A = ℕ} 0 1 = cc in omega arith), tt))));
+}

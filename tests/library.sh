@@ -1,0 +1,47 @@
+# library.sh: sourced by the scripts that build a test program over the static library and run it for longer than check
+# does. Needs what host.sh needs. LIBRARY names another archive than the one that is built here from the sources.
+# shellcheck shell=bash
+. tests/host.sh
+mkdir -p target/host || exit 2
+if [ -z "${LIBRARY-}" ]; then
+    LIBRARY=target/staticlib/libstormtoggle.a
+    rt staticlib stormtoggle || exit 2
+fi
+
+# Builds a test program, and tells in which file it stands.
+build_test() { # SOURCE SUFFIX FLAG...
+    local program
+    program=target/host/$(basename "$1" .c)-$2
+    "$compiler" "${flags[@]}" "${@:3}" -O2 -o "$program" "$1" "$LIBRARY" || return
+    echo "$program"
+}
+
+# Seeds each of the slips in turn; number 0 is none. Without a slip nothing may differ; with one, something must.
+run_with_slips() { # SOURCE CALLS SLIP...
+    local source=$1 calls=$2 slips=("${@:3}") failed=0 fault program said status first differ found
+    for fault in "${!slips[@]}"; do
+        program=$(build_test "$source" "fault-$fault" -DFAULT="$fault") || exit 2
+        said=$("${runner[@]}" "$program" 1 "$calls")
+        status=$?
+        first=$(grep -om 1 'call [0-9]*, ' <<<"$said")
+        differ=-1
+        [[ $said =~ \ ([0-9]+)\ mismatches ]] && differ=${BASH_REMATCH[1]}
+        if [ "$fault" -eq 0 ] && [ "$status" -eq 0 ] && [ "$differ" -eq 0 ]; then
+            found="nothing differs"
+        elif [ "$fault" -gt 0 ] && [ "$status" -eq 1 ] && [ "$differ" -gt 0 ]; then
+            found="found, first at ${first%, }"
+        else
+            found="FAILED: status $status, mismatches $differ"
+            failed=1
+        fi
+        echo "fault $fault, ${slips[fault]}: $found"
+    done
+    return "$failed"
+}
+
+# Goes on for as many calls as it is told, and ends the script with the test's status.
+run_for_long() { # SOURCE CALLS SEED
+    local program
+    program=$(build_test "$1" long) || exit 2
+    exec "${runner[@]}" "$program" "$3" "$2"
+}

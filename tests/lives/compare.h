@@ -1,0 +1,260 @@
+/* compare.h: what views and reads of the cartridge give, held to what the list says stands. */
+#ifndef COMPARE_H
+#define COMPARE_H
+
+#include "sender.h"
+
+static uint8_t *reading_record, *read_bytes; /* between canaries: for the comparing reads alone */
+
+static inline void lend_for_reading(void)
+{
+    reading_record = lend(noise, RECORD);
+    read_bytes = lend(noise, LARGEST_BLOCK);
+}
+
+static inline void take_reading_back(void)
+{
+    take_back(reading_record, RECORD);
+    take_back(read_bytes, LARGEST_BLOCK);
+}
+
+static inline int number_of(const struct tape *tape)
+{
+    return (int)(tape - ours);
+}
+
+/* In words, for the line of a mismatch. */
+static inline const char *in_words(const struct event *object)
+{
+    static char words[40];
+    if (object == NULL)
+        return "nothing";
+    if (object->kind == PUT_FILEMARK)
+        return "a filemark";
+    snprintf(words, sizeof words, "a block of %u bytes", (unsigned)object->length);
+    return words;
+}
+
+/* The first byte that is another; the length if there is none. */
+static inline uint32_t same_bytes(const uint8_t *came, const uint8_t *expected, uint32_t length)
+{
+    uint32_t same = 0;
+    if (memcmp(came, expected, length) == 0)
+        return length;
+    while (came[same] == expected[same])
+        same++;
+    return same;
+}
+
+/* ---- views */
+
+/* The partition in its place, mostly in the whole cartridge; the other slice may be anything. */
+static inline struct loan view_loan(const struct tape *tape)
+{
+    struct loan loan = whole_cartridge();
+    if (one_in(4))
+        loan.at[number_of(tape) == 0] = one_in(2) ? &foreign[0] : NULL;
+    return loan;
+}
+
+/* Exactly the block's bytes; empty for a filemark, or where nothing stands. */
+static inline int view_agrees(const struct tape *tape, uint64_t k)
+{
+    const struct event *object = standing(&tape->history.kept, k);
+    uint32_t length = object != NULL ? object->length : 0, start, same;
+    struct loan loan = view_loan(tape);
+    uint64_t view = stormtoggle_view(bytes_at(loan, 0), length_at(loan, 0), bytes_at(loan, 1), length_at(loan, 1),
+                                     (uint64_t)number_of(tape), k);
+    happens(VIEWS, 1);
+    start = STORMTOGGLE_VIEW_START(view);
+    if (STORMTOGGLE_VIEW_LENGTH(view) != length || start > tape->length - length || (length == 0 && start != 0)) {
+        mismatch("view of partition %d, number %" PRIu64 ": expected %s, came %u bytes from %u on", number_of(tape), k,
+                 in_words(object), (unsigned)STORMTOGGLE_VIEW_LENGTH(view), (unsigned)start);
+        return 0;
+    }
+    same = length == 0 ? 0 : same_bytes(tape->image + start, object->bytes, length);
+    if (same < length)
+        mismatch("view of partition %d, number %" PRIu64 ": expected %s, byte %u %02xh, came %02xh", number_of(tape), k,
+                 in_words(object), (unsigned)same, object->bytes[same], tape->image[start + same]);
+    return same == length;
+}
+
+/* Every number up to two beyond the last, and one far off. */
+static inline int views_agree(const struct tape *tape)
+{
+    static const uint64_t far[] = {0x7fffffff, 0x80000000, 0xffffffff, BEYOND_32_BITS, UINT64_MAX};
+    for (uint64_t k = 0; k <= (uint64_t)end_of(&tape->history) + 1; k++)
+        if (!view_agrees(tape, k))
+            return 0;
+    return view_agrees(tape, one_in(2) ? far[draw(COUNT(far))] : BEYOND_32_BITS + draw(8));
+}
+
+/* ---- reads */
+
+static inline uint64_t command_whole(uint8_t *record, struct bytes block, uint8_t *received, size_t length)
+{
+    struct loan loan = whole_cartridge();
+    return command_service(record, RECORD, block.at, block.length, bytes_at(loan, 0), length_at(loan, 0),
+                           bytes_at(loan, 1), length_at(loan, 1), NULL, 0, received, length);
+}
+
+enum meeting { A_BLOCK, A_FILEMARK, END_OF_TAPE, SOMETHING_ELSE };
+
+/* What a READ of the largest block met, told by the answer and the kept sense alone. */
+static inline enum meeting met_by(uint64_t answer, const uint8_t *sense, int hides_length)
+{
+    uint32_t carried = STORMTOGGLE_CARRIED(answer), information = get32(sense + 3);
+    if (STORMTOGGLE_REFUSAL(answer) != 0)
+        return SOMETHING_ELSE;
+    if (STORMTOGGLE_STATUS(answer) == 0)
+        return carried > 0 && (carried == LARGEST_BLOCK || hides_length) ? A_BLOCK : SOMETHING_ELSE;
+    if (sense[0] != SENSE_VALID || information != LARGEST_BLOCK - carried)
+        return SOMETHING_ELSE;
+    switch (condition_of(sense)) {
+    case WRONG_LENGTH: return carried > 0 && !hides_length ? A_BLOCK : SOMETHING_ELSE;
+    case FILEMARK_DETECTED: return carried == 0 ? A_FILEMARK : SOMETHING_ELSE;
+    case END_OF_DATA: return carried == 0 ? END_OF_TAPE : SOMETHING_ELSE;
+    default: return SOMETHING_ELSE;
+    }
+}
+
+static inline void read_differs(const struct tape *tape, uint32_t k, const struct event *object, uint64_t answer,
+                                const uint8_t *record)
+{
+    uint32_t length = object != NULL ? object->length : 0, same = 0;
+    print_latest();
+    printf("read of partition %d, number %u: expected %s, came ", number_of(tape), (unsigned)k,
+           object == NULL ? "end of data" : in_words(object));
+    print_answer(stdout, answer, record);
+    if (length > 0 && STORMTOGGLE_CARRIED(answer) == length)
+        same = same_bytes(read_bytes, object->bytes, length);
+    if (same < length && STORMTOGGLE_CARRIED(answer) == length)
+        printf(", byte %u %02xh and not %02xh", (unsigned)same, read_bytes[same], object->bytes[same]);
+    end_mismatch();
+}
+
+/* One READ meets this object, or the end of data if it is NULL. What the buffer held before is none of its bytes. */
+static inline int read_meets(uint8_t *record, const struct tape *tape, uint32_t k, const struct event *object)
+{
+    int hides_length = one_in(2), agrees;
+    enum meeting expected = object == NULL ? END_OF_TAPE : object->kind == PUT_BLOCK ? A_BLOCK : A_FILEMARK;
+    uint32_t length = object != NULL ? object->length : 0;
+    uint64_t answer;
+    if (length > 0)
+        memset(read_bytes, object->bytes[0] ^ 0xff, length);
+    answer = command_whole(record, (struct bytes)SIX(READ, hides_length ? SILI : 0, LARGEST_BLOCK), read_bytes,
+                           LARGEST_BLOCK);
+    happens(READS, 1);
+    happens(expected == A_BLOCK ? BLOCKS_MET : expected == A_FILEMARK ? FILEMARKS_MET : ENDS_MET, 1);
+    agrees = met_by(answer, record + STORMTOGGLE_RECORD_SENSE, hides_length) == expected &&
+             STORMTOGGLE_CARRIED(answer) == length && (length == 0 || memcmp(read_bytes, object->bytes, length) == 0);
+    if (!agrees)
+        read_differs(tape, k, object, answer, record);
+    return agrees;
+}
+
+/* Those that stand from this number on, in order, and no others: then end of data, again and again. */
+static inline int reads_meet_from(uint8_t *record, const struct tape *tape, uint32_t number)
+{
+    uint32_t end = end_of(&tape->history);
+    for (uint32_t k = number; k < end; k++) {
+        const struct event *object = standing(&tape->history.kept, k);
+        if (object != NULL && !read_meets(record, tape, k, object))
+            return 0;
+    }
+    for (int more = 2 + one_in(4); more > 0; more--)
+        if (!read_meets(record, tape, end, NULL))
+            return 0;
+    return 1;
+}
+
+/* From the beginning, reached by LOCATE, or by REWIND if the record is at the partition already. */
+static inline int reads_meet_all(uint8_t *record, const struct tape *tape)
+{
+    uint8_t immed = (uint8_t)draw(2), partition = (uint8_t)number_of(tape);
+    if (record[STORMTOGGLE_RECORD_CURRENT] == partition && one_in(3))
+        command_whole(record, (struct bytes)SIX(REWIND, immed, 0), NULL, 0);
+    else
+        command_whole(record, (struct bytes)LOCATE(CP | immed, 0, partition), NULL, 0);
+    return reads_meet_from(record, tape, 0);
+}
+
+/* ---- the records that read */
+
+/* A record of the comparison's own, with the whole cartridge mounted and no attention waiting. */
+static inline int mount_for_reading(void)
+{
+    struct loan loan = whole_cartridge();
+    uint8_t sense[SENSE];
+    uint64_t answer;
+    stormtoggle_fresh(reading_record, RECORD);
+    answer = stormtoggle_mount(reading_record, RECORD, bytes_at(loan, 0), length_at(loan, 0), bytes_at(loan, 1),
+                               length_at(loan, 1));
+    if (answer != DONE) {
+        mismatch("the whole cartridge could not be mounted: refused by %u", STORMTOGGLE_REFUSAL(answer));
+        return 0;
+    }
+    if (one_in(2))
+        command_whole(reading_record, (struct bytes)SIX(TEST_UNIT_READY, 0, 0), NULL, 0);
+    else
+        command_whole(reading_record, (struct bytes)SIX(REQUEST_SENSE, 0, SENSE), sense, SENSE);
+    return 1;
+}
+
+/* A copy of a record of the life: from where it is, or from a beginning. Number 4 finds a fault exactly above N. */
+static inline void read_under(const struct holder *holder)
+{
+    struct drive drive = drive_of(holder->record);
+    const struct tape *tape = &ours[drive.current % partitions];
+    uint64_t answer;
+    if (!holder->is_mounted || drive.attention != 0)
+        return;
+    memcpy(reading_record, holder->record, RECORD);
+    happens(OWN_READINGS, 1);
+    if (drive.position > end_of(&tape->history)) {
+        happens(OWN_ABOVE_N, 1);
+        answer = command_whole(reading_record, (struct bytes)SIX(READ, 0, LARGEST_BLOCK), read_bytes, LARGEST_BLOCK);
+        if (STORMTOGGLE_REFUSAL(answer) != 4)
+            read_differs(tape, drive.position, NULL, answer, reading_record);
+    } else if (one_in(2)) {
+        reads_meet_from(reading_record, tape, drive.position);
+    } else {
+        reads_meet_all(reading_record, &ours[draw(partitions)]);
+    }
+}
+
+/* ---- the comparison after a call */
+
+/* Both partitions, in either order, by views and by reads; none of them may change a byte. */
+static inline void compare(void)
+{
+    int is_under_mounted = latest.by != NULL && latest.by->is_mounted;
+    unsigned first = draw(partitions);
+    for (unsigned i = 0; i < partitions; i++)
+        memcpy(ours[i].as_called, ours[i].image, ours[i].length);
+    if (!mount_for_reading())
+        return;
+    for (unsigned turn = 0; turn < partitions; turn++) {
+        const struct tape *tape = &ours[(first + turn) % partitions];
+        if (!views_agree(tape) || !reads_meet_all(reading_record, tape))
+            return;
+    }
+    if (one_in(2))
+        read_under(is_under_mounted ? latest.by : &holders[draw(drives)]);
+    for (unsigned i = 0; i < partitions && !life_is_over; i++)
+        if (memcmp(ours[i].image, ours[i].as_called, ours[i].length) != 0)
+            mismatch("partition %u was changed by the views and reads", i);
+}
+
+/* The whole list by the demand's words, beside what is kept of it. */
+static inline void read_lists_whole(void)
+{
+    for (unsigned i = 0; i < partitions; i++) {
+        int64_t number = first_difference(&ours[i].history);
+        happens(LISTS_READ_WHOLE, 1);
+        if (number >= 0)
+            mismatch("partition %u, number %d: the whole list and what is kept of it differ", i, (int)number);
+    }
+}
+
+#endif

@@ -1,0 +1,139 @@
+/* coverage.h: what a run of lives reached, counted and told, and whether anything that it is for was never reached. */
+#ifndef COVERAGE_H
+#define COVERAGE_H
+
+#include "../blocks.h"
+#include "../check.h"
+
+enum happening {
+    LIVES_OF_ONE, LIVES_OF_TWO, LONG_LIVES,
+    BLOCKS_PUT, LARGEST_PUT, FIXED_PUT, FILEMARKS_PUT, ALL_IN_THE_ZONE, PARTLY_PUT, NONE_FITTED, NONE_ASKED,
+    OVERWRITES, CUTS, LONG_CUTS, CUTS_OF_NOTHING, STOPPED_BY_PROTECTION,
+    MOUNTS, REMOUNTS, PROTECTION_SET, PROTECTION_CLEARED, ATTENTIONS_TOLD, CODES_NOT_SERVED, BAD_FIELDS,
+    ABOVE_N, UNDER_ODD_RECORDS, CHANGED_BY_ODD_RECORDS,
+    LONE_FIRST, LONE_SECOND, LONE_BESIDE_ANOTHER, LONE_CHANGED, ANOTHER_CHANGED,
+    VIEWS, READS, BLOCKS_MET, FILEMARKS_MET, ENDS_MET, OWN_READINGS, OWN_ABOVE_N, NEVER_BY_4, LISTS_READ_WHOLE,
+    HAPPENINGS
+};
+
+static const char *const happening_names[HAPPENINGS] = {
+    [LIVES_OF_ONE] = "lives of one partition",
+    [LIVES_OF_TWO] = "lives of two partitions",
+    [LONG_LIVES] = "lives with room for 65,536 bytes",
+    [BLOCKS_PUT] = "variable writes that put a block",
+    [LARGEST_PUT] = "writes that put 65,536 bytes a block",
+    [FIXED_PUT] = "FIXED writes that put several",
+    [FILEMARKS_PUT] = "writes that put filemarks",
+    [ALL_IN_THE_ZONE] = "all put, with early warning",
+    [PARTLY_PUT] = "some put and not all",
+    [NONE_FITTED] = "none put, for want of room",
+    [NONE_ASKED] = "none asked for, GOOD",
+    [OVERWRITES] = "puts in the middle, over objects",
+    [CUTS] = "erases that cut objects",
+    [LONG_CUTS] = "LONG erases that cut objects",
+    [CUTS_OF_NOTHING] = "erases at the end of data",
+    [STOPPED_BY_PROTECTION] = "stopped by protection",
+    [MOUNTS] = "mounts done",
+    [REMOUNTS] = "mounts done after an unload",
+    [PROTECTION_SET] = "protection set",
+    [PROTECTION_CLEARED] = "protection cleared",
+    [ATTENTIONS_TOLD] = "attentions told",
+    [CODES_NOT_SERVED] = "codes not served",
+    [BAD_FIELDS] = "bad fields",
+    [ABOVE_N] = "refused for a position above N",
+    [UNDER_ODD_RECORDS] = "under foreign or broken records",
+    [CHANGED_BY_ODD_RECORDS] = "puts and erases under such records",
+    [LONE_FIRST] = "a partition alone, in the first place",
+    [LONE_SECOND] = "a partition alone, in the second",
+    [LONE_BESIDE_ANOTHER] = "a partition beside a foreign slice",
+    [LONE_CHANGED] = "puts and erases on a lone partition",
+    [ANOTHER_CHANGED] = "puts and erases on a slice beside it",
+    [VIEWS] = "views compared",
+    [READS] = "reads compared",
+    [BLOCKS_MET] = "blocks met",
+    [FILEMARKS_MET] = "filemarks met",
+    [ENDS_MET] = "ends of data met",
+    [OWN_READINGS] = "readings under a life's own record",
+    [OWN_ABOVE_N] = "such readings refused above N",
+    [NEVER_BY_4] = "calls that 4 may never refuse",
+    [LISTS_READ_WHOLE] = "lists read whole",
+};
+
+/* The house services stand behind the 256 operation codes. */
+enum { FRESH = 256, MOUNT, PROTECT, BLANK, CALL_KINDS };
+
+static const struct {
+    unsigned kind;
+    const char *name;
+} calls_named[] = {
+    {TEST_UNIT_READY, "TEST UNIT READY"}, {REWIND, "REWIND"}, {REQUEST_SENSE, "REQUEST SENSE"},
+    {READ_BLOCK_LIMITS, "READ BLOCK LIMITS"}, {READ, "READ"}, {WRITE, "WRITE"}, {WRITE_FILEMARKS, "WRITE FILEMARKS"},
+    {SPACE, "SPACE"}, {MODE_SELECT, "MODE SELECT"}, {ERASE, "ERASE"}, {MODE_SENSE, "MODE SENSE"},
+    {LOAD_UNLOAD, "LOAD UNLOAD"}, {LOCATE, "LOCATE"}, {READ_POSITION, "READ POSITION"},
+    {FRESH, "fresh"}, {MOUNT, "mount"}, {PROTECT, "protect"},
+};
+
+static struct {
+    unsigned long lives, calls, wanted, mismatches;
+    unsigned long acted[CALL_KINDS], stopped[CALL_KINDS], refused[CALL_KINDS], refusals[8];
+    unsigned long times[HAPPENINGS];
+} reached;
+
+static inline const char *name_of_call(unsigned kind)
+{
+    for (size_t i = 0; i < COUNT(calls_named); i++)
+        if (calls_named[i].kind == kind)
+            return calls_named[i].name;
+    return kind == BLANK ? "blank" : "a code not served";
+}
+
+static inline void happens(enum happening happening, int holds)
+{
+    reached.times[happening] += holds != 0;
+}
+
+/* ---- the report */
+
+/* Only so many calls must reach everything. */
+enum { ENOUGH_CALLS = 200000 };
+
+static unsigned never_reached;
+
+static inline unsigned long shown(unsigned long count)
+{
+    never_reached += count == 0;
+    return count;
+}
+
+/* A house service is not stopped by a command's tests. */
+static inline void report_calls(void)
+{
+    printf("%-18s %9s %9s %9s\n", "call", "acted", "stopped", "refused");
+    for (size_t i = 0; i < COUNT(calls_named); i++) {
+        unsigned kind = calls_named[i].kind;
+        printf("%-18s %9lu %9lu %9lu\n", calls_named[i].name, shown(reached.acted[kind]),
+               kind < FRESH ? shown(reached.stopped[kind]) : 0, shown(reached.refused[kind]));
+    }
+    printf("refused by number");
+    for (int number = 1; number < 8; number++)
+        printf("%s %d %lu", number == 1 ? "" : ",", number, shown(reached.refusals[number]));
+    printf("\n");
+}
+
+/* The exit status: 0 only without a mismatch, and if a run that is long enough reached everything. */
+static inline int report(void)
+{
+    int failed;
+    report_calls();
+    for (int i = 0; i < HAPPENINGS; i++)
+        printf("%-37s %9lu%s", happening_names[i], shown(reached.times[i]),
+               i % 2 == 0 && i < HAPPENINGS - 1 ? "    " : "\n");
+    reached.mismatches += checks_failed;
+    failed = reached.mismatches > 0 || (reached.wanted >= ENOUGH_CALLS && never_reached > 0);
+    printf("%u kinds never reached%s\n", never_reached, reached.wanted < ENOUGH_CALLS ? ", in a short run" : "");
+    printf("lives: %lu lives, %lu calls, %.1f million reads, %lu mismatches\n", reached.lives, reached.calls,
+           (double)reached.times[READS] / 1e6, reached.mismatches);
+    return failed;
+}
+
+#endif

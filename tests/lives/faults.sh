@@ -1,0 +1,21 @@
+#!/usr/bin/env bash
+# faults.sh: shows that tests/lives/lives.c can fail: the run of check finds each of ten faults seeded in the services.
+# LIBRARY names another archive than the one that is built here from the sources.
+set -u
+cd "$(dirname "$0")/../.." || exit 2
+. tests/library.sh
+
+faults=(
+    "none"
+    "a put leaves the objects behind it standing"
+    "ERASE cuts one object later"
+    "WRITE FIXED and WRITE FILEMARKS put one object fewer than they say"
+    "protection drops the last object"
+    "LOCATE of object 0 in the other partition keeps the old position"
+    "the last byte of a block is another"
+    "a write that does not fit cuts the partition"
+    "ERASE leaves the position one beyond N"
+    "READ passes the object behind a filemark"
+    "LONG zeroes the last byte before the position"
+)
+run_with_slips tests/lives/lives.c 200000 "${faults[@]}"

@@ -1,0 +1,8 @@
+#!/usr/bin/env bash
+# long.sh [CALLS [SEED]]: a long run of tests/lives/lives.c: five million calls and a seed by the clock, unless said.
+# LIBRARY names another archive than the one that is built here from the sources.
+set -u
+calls=${1-5000000} seed=${2-$(date +%s)}
+cd "$(dirname "$0")/../.." || exit 2
+. tests/library.sh
+run_for_long tests/lives/lives.c "$calls" "$seed"
