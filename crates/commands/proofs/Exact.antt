@@ -10,12 +10,18 @@ use mathlib.Core.List.{List, [], _∷_}
 use native.Mathlib.Omega.{arith}
 use borrow.Author.Tests.{ne-eqb}
 use lib.Dec.{eqb}
-use Rattle.answers.specs.Answers.{refused}
+use lib.ListN.{length}
+use Rattle.words.proofs.Laws.{over-nil}
+use Rattle.answers.specs.Answers.{commandShort, recordFault, refused}
+use Rattle.image.specs.Changes.{occurs}
+use Rattle.record.specs.declared.drive.Drive.{Drive}
 use Rattle.record.specs.Record.{decodeOf, wellRecord}
+use Rattle.codes.specs.declared.operation.Operation.{Operation}
 use Rattle.codes.specs.Codes.{codeOf, tooShort, operationOf}
-use Rattle.commands.specs.Stop.{Stop, refuse, first}
+use Rattle.commands.specs.Stop.{Stop, refuse, attend, fault, first}
 use Rattle.commands.specs.Tests.{tests}
-use Rattle.commands.specs.Call.{decided, result, seen, inserted, stopped, acted, stepOf, written, commandCall, commandTests}
+use Rattle.commands.specs.Step.{stopped, acted, unless, step}
+use Rattle.commands.specs.Call.{Lent, outcome, Outcome, result, looksAt, seen, faulty, laidOut, applied, stepOf, called, written, commandCall, commandTests}
 
 -- ---- lists of tests
 
@@ -58,6 +64,41 @@ exactly ts s k here only = (
   (λ h. first-at ts k h ∙ here),
 )
 
+-- ---- what a step that is stopped leaves, and one that acts
+
+same-way : (t : Bool) (p : List ℕ) → cond t p p ≡ p
+same-way true p = refl
+same-way false p = refl
+
+-- the slices as they were
+abbrev pub halted : Stop → Drive → Lent → Outcome
+halted s d x = outcome (stopped s d .answer) (stopped s d .drive) x
+
+quiet : (s : Stop) (d : Drive) (k : ℕ) (x : Lent) → applied (stopped s d) k x ≡ halted s d x
+unfolding applied stopped laidOut occurs
+quiet (refuse n) d k x = rw (same-way (eqb k 1) (x .part0), same-way (eqb k 1) (x .part1), over-nil (x .received) 0) refl
+quiet attend d k x = rw (same-way (eqb k 1) (x .part0), same-way (eqb k 1) (x .part1), over-nil (x .received) 0) refl
+quiet (fault key a q) d k x = rw (same-way (eqb k 1) (x .part0), same-way (eqb k 1) (x .part1), over-nil (x .received) 0) refl
+
+module _ (d : Drive) (x : Lent) where
+  abbrev o : Operation
+  o = operationOf (codeOf (x .cmd))
+
+  abbrev pub Tests : List (Bool × Stop)
+  Tests = tests (operationOf (codeOf (x .cmd))) d (x .cmd) (seen (operationOf (codeOf (x .cmd))) d x) (x .sent) (length (x .received))
+
+  -- what the act makes of the slices
+  abbrev pub Acts : Outcome
+  Acts = applied (acted (operationOf (codeOf (x .cmd))) d (x .cmd) (x .sent) (seen (operationOf (codeOf (x .cmd))) d x)) (looksAt (operationOf (codeOf (x .cmd))) d (x .cmd)) x
+
+  pub step-stops : (s : Stop) → first Tests ≡ some s → stepOf d x ≡ halted s d x
+  unfolding stepOf step unless
+  step-stops s e = rw e (quiet s d (looksAt o d (x .cmd)) x)
+
+  pub step-acts : first Tests ≡ none → stepOf d x ≡ Acts
+  unfolding stepOf step unless
+  step-acts e = rw e refl
+
 -- ---- the refusals of a command
 
 -- which test gives each: 1, 4, 2, 3
@@ -67,9 +108,9 @@ placeOf n = cond (eqb n 1) 0 (cond (eqb n 4) 1 (cond (eqb n 2) 9 10))
 same-number : (a n : ℕ) → some (refuse a) ≡ some (refuse n) → a ≡ n
 same-number a n e = cc
 
-module _ (rec cmd p0 p1 sent received : List ℕ) where
+module _ (rec : List ℕ) (x : Lent) where
   -- no other test gives it
-  only : (j n : ℕ) → stopAt (commandTests rec cmd p0 p1 sent received) j ≡ some (refuse n) → j ≡ placeOf n
+  only : (j n : ℕ) → stopAt (commandTests rec x) j ≡ some (refuse n) → j ≡ placeOf n
   unfolding commandTests tests
   only zero n e = ap placeOf (same-number 1 n e)
   only (suc zero) n e = ap placeOf (same-number 4 n e)
@@ -85,43 +126,53 @@ module _ (rec cmd p0 p1 sent received : List ℕ) where
   only (suc (suc (suc (suc (suc (suc (suc (suc (suc (suc (suc j))))))))))) n e = cc
 
   -- "command block empty, or shorter than its length"
-  pub refused-1 : (first (commandTests rec cmd p0 p1 sent received) ≡ some (refuse 1)) ↔ FirstAt (commandTests rec cmd p0 p1 sent received) 0
+  pub refused-1 : (first (commandTests rec x) ≡ some (refuse 1)) ↔ FirstAt (commandTests rec x) 0
   unfolding commandTests
-  refused-1 = exactly (commandTests rec cmd p0 p1 sent received) (refuse 1) 0 refl (λ j e. only j 1 e)
+  refused-1 = exactly (commandTests rec x) (refuse 1) 0 refl (λ j e. only j 1 e)
 
   -- "record not 30 bytes or ill-formed; or, for a command, loaded and .."
-  pub refused-4 : (first (commandTests rec cmd p0 p1 sent received) ≡ some (refuse 4)) ↔ FirstAt (commandTests rec cmd p0 p1 sent received) 1
+  pub refused-4 : (first (commandTests rec x) ≡ some (refuse 4)) ↔ FirstAt (commandTests rec x) 1
   unfolding commandTests
-  refused-4 = exactly (commandTests rec cmd p0 p1 sent received) (refuse 4) 1 refl (λ j e. only j 4 e)
+  refused-4 = exactly (commandTests rec x) (refuse 4) 1 refl (λ j e. only j 4 e)
 
   -- "data sent is shorter than the command takes"
-  pub refused-2 : (first (commandTests rec cmd p0 p1 sent received) ≡ some (refuse 2)) ↔ FirstAt (commandTests rec cmd p0 p1 sent received) 9
+  pub refused-2 : (first (commandTests rec x) ≡ some (refuse 2)) ↔ FirstAt (commandTests rec x) 9
   unfolding commandTests tests
-  refused-2 = exactly (commandTests rec cmd p0 p1 sent received) (refuse 2) 9 refl (λ j e. only j 2 e)
+  refused-2 = exactly (commandTests rec x) (refuse 2) 9 refl (λ j e. only j 2 e)
 
   -- "receiving buffer is shorter than the command may need"
-  pub refused-3 : (first (commandTests rec cmd p0 p1 sent received) ≡ some (refuse 3)) ↔ FirstAt (commandTests rec cmd p0 p1 sent received) 10
+  pub refused-3 : (first (commandTests rec x) ≡ some (refuse 3)) ↔ FirstAt (commandTests rec x) 10
   unfolding commandTests tests
-  refused-3 = exactly (commandTests rec cmd p0 p1 sent received) (refuse 3) 10 refl (λ j e. only j 3 e)
+  refused-3 = exactly (commandTests rec x) (refuse 3) 10 refl (λ j e. only j 3 e)
 
   -- ---- what the call leaves
 
   -- a refusal by number leaves every byte
-  pub refused-leaves : (n : ℕ) → 0 < n → written rec (stopped (refuse n) (decodeOf rec) p0 p1 received) ≡ result (refused n) rec p0 p1 received
+  pub refused-leaves : (n : ℕ) → 0 < n → written rec (halted (refuse n) (decodeOf rec) x) ≡ result (refused n) rec x
   unfolding stopped
   refused-leaves n h = rw (ne-eqb n 0 (λ e. omega arith)) refl
 
   -- where the list stops it, the call leaves what the stop leaves
-  pub call-stops : (s : Stop) → first (commandTests rec cmd p0 p1 sent received) ≡ some s → commandCall rec cmd p0 p1 sent received ≡ written rec (stopped s (decodeOf rec) p0 p1 received)
-  unfolding commandCall decided
-  call-stops s e = rw e refl
+  pub call-stops : (s : Stop) → first (commandTests rec x) ≡ some s → commandCall rec x ≡ written rec (halted s (decodeOf rec) x)
+  unfolding commandCall commandTests called
+  call-stops s e = ap (written rec) (go (tooShort (x .cmd)) (faulty (wellRecord rec) (decodeOf rec) x) e)
+    where
+      short : (n : ℕ) → refuse n ≡ s → outcome (refused n) (decodeOf rec) x ≡ halted s (decodeOf rec) x
+      short n q = subst (λ (t : Stop). outcome (refused n) (decodeOf rec) x ≡ halted t (decodeOf rec) x) q (unfold stopped in refl)
+
+      go : (a b : Bool) → first ((a, refuse commandShort) ∷ (b, refuse recordFault) ∷ Tests (decodeOf rec) x) ≡ some s
+          → cond a (outcome (refused commandShort) (decodeOf rec) x) (cond b (outcome (refused recordFault) (decodeOf rec) x) (stepOf (decodeOf rec) x)) ≡ halted s (decodeOf rec) x
+      go true b e = unfold first in short commandShort cc
+      go false true e = unfold first in short recordFault cc
+      go false false e = unfold first in step-stops (decodeOf rec) x s e
 
   -- and where no test holds, it acts
-  pub call-acts : first (commandTests rec cmd p0 p1 sent received) ≡ none → commandCall rec cmd p0 p1 sent received ≡ written rec (acted (operationOf (codeOf cmd)) (decodeOf rec) cmd p0 p1 sent received (seen (operationOf (codeOf cmd)) (decodeOf rec) cmd p0 p1))
-  unfolding commandCall decided
-  call-acts e = rw e refl
-
-  -- past 1 and 4 it is the step by value
-  pub call-steps : tooShort cmd ≡ false → not (wellRecord rec && inserted (decodeOf rec) p0 p1) ≡ false → commandCall rec cmd p0 p1 sent received ≡ written rec (stepOf (decodeOf rec) cmd p0 p1 sent received)
-  unfolding commandCall commandTests first stepOf
-  call-steps h k = rw (h, k) refl
+  pub call-acts : first (commandTests rec x) ≡ none → commandCall rec x ≡ written rec (Acts (decodeOf rec) x)
+  unfolding commandCall commandTests called
+  call-acts e = ap (written rec) (go (tooShort (x .cmd)) (faulty (wellRecord rec) (decodeOf rec) x) e)
+    where
+      go : (a b : Bool) → first ((a, refuse commandShort) ∷ (b, refuse recordFault) ∷ Tests (decodeOf rec) x) ≡ none
+          → cond a (outcome (refused commandShort) (decodeOf rec) x) (cond b (outcome (refused recordFault) (decodeOf rec) x) (stepOf (decodeOf rec) x)) ≡ Acts (decodeOf rec) x
+      go true b e = absurd (unfold first in let z : _≡_ {A = ℕ} 0 1 = cc in omega arith)
+      go false true e = absurd (unfold first in let z : _≡_ {A = ℕ} 0 1 = cc in omega arith)
+      go false false e = unfold first in step-acts (decodeOf rec) x e

@@ -19,7 +19,8 @@ use Rattle.codes.specs.Fields.{changesPartition, partitionOf, objectOf, allocat
 use Rattle.mode.specs.Mode.{wholeLength, listLengthKnown, listRight, newLength}
 use Rattle.commands.specs.declared.deeds.Left.{Left}
 use Rattle.commands.specs.Act.{carrying, good, checked, atPartition, withLength, targetOf, locating, selecting}
-use Rattle.commands.specs.Call.{seenOf, statusOf, keptOf}
+use Rattle.commands.specs.Step.{statusOf, keptOf}
+use Rattle.commands.specs.Call.{seenOf}
 use Rattle.commands.specs.Left.{leftBy}
 
 module _ (d e : Drive) (b : List ℕ) (h : e ≡ withSense d b) (n : ℕ) where

@@ -3,19 +3,23 @@
 use Prim.Native.Nat.{ℕ, _^_, _≤_, _<_, min}
 use native.Mathlib.Omega.{arith}
 use mathlib.Core.Path.{_≡_, refl, ap, _∙_}
-use mathlib.Core.Bool.{Bool, true, false}
-use mathlib.Core.List.{List, []}
+use mathlib.Core.Bool.{Bool, true, false, cond}
+use mathlib.Core.List.{List, [], _∷_}
 use borrow.Author.Tests.{eq-eqb, ne-eqb}
+use lib.Dec.{eqb}
 use lib.ListN.{length, length-take}
 use Rattle.words.specs.Words.{bytes, over, limited}
 use Rattle.sense.specs.Sense.{attentionSense}
 use Rattle.record.specs.declared.drive.Drive.{Drive}
 use Rattle.record.specs.Record.{noAttention}
-use Rattle.codes.specs.declared.operation.Operation.the-variants.{RequestSense, ReadBlockLimits, ModeSense}
-use Rattle.codes.specs.Fields.{allocationOf, dbdOf}
-use Rattle.mode.specs.Mode.{blockLimits, modeData}
+use Rattle.codes.specs.declared.operation.Operation.{Operation}
+use Rattle.codes.specs.declared.operation.Operation.the-variants.{RequestSense, ReadBlockLimits, ModeSense, ReadPosition}
+use Rattle.codes.specs.Fields.{allocationOf, dbdOf, formOf}
+use Rattle.mode.specs.Mode.{headerLength, wholeLength, blockLimits, modeData, shortPosition, longPosition}
 use Rattle.commands.specs.declared.deeds.Left.{Left}
-use Rattle.commands.specs.Act.{carrying, good, unattended, senseAsked, replyOf, act}
+use Rattle.commands.specs.Kinds.{among}
+use Rattle.commands.specs.Act.{Seen, carrying, good, unattended, shortForm, senseAsked, replyOf, act}
+use Rattle.commands.specs.Tests.{replyLength}
 use Rattle.commands.specs.Call.{nothing}
 use Rattle.commands.specs.Left.{leftBy, protectedOnly}
 
@@ -72,3 +76,23 @@ reply-fits a b l e h = rw e h
 
 pub reply-laid : (a b s t : List ℕ) → b ≡ a → t ≡ over s 0 b → t ≡ over s 0 a
 reply-laid a b s t e q = q ∙ ap (over s 0) e
+
+-- ---- how long a reply is, whatever is seen
+
+chosen-length : (t : Bool) (x y : List ℕ) (a b : ℕ) → length x ≡ a → length y ≡ b → length (cond t x y) ≡ cond t a b
+chosen-length true x y a b ex ey = ex
+chosen-length false x y a b ex ey = ey
+
+mode-length : (t g : Bool) (n : ℕ) → length (modeData t g n) ≡ cond t headerLength wholeLength
+unfolding modeData bytes
+mode-length true g n = refl
+mode-length false g n = refl
+
+pub reply-length : (o : Operation) (d : Drive) (cmd : List ℕ) (v : Seen) → length (replyOf o d cmd v) ≡ replyLength o d cmd
+unfolding replyOf replyLength blockLimits shortPosition longPosition bytes
+reply-length o d cmd v =
+    chosen-length (among (RequestSense ∷ []) o) _ _ _ _ (length-take (allocationOf cmd) (senseAsked d))
+    (chosen-length (among (ReadBlockLimits ∷ []) o) _ _ _ _ refl
+    (chosen-length (among (ModeSense ∷ []) o) _ _ _ _
+    (length-take (allocationOf cmd) (modeData (dbdOf cmd) (v .guarded) (d .«block_length»)) ∙ ap (min (allocationOf cmd)) (mode-length (dbdOf cmd) (v .guarded) (d .«block_length»)))
+    (chosen-length (among (ReadPosition ∷ []) o) _ _ _ _ (chosen-length (eqb (formOf cmd) shortForm) _ _ _ _ refl refl) refl)))

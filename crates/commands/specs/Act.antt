@@ -20,6 +20,7 @@ use Rattle.record.specs.Record.{noAttention, loadedAnew, unloaded}
 use Rattle.codes.specs.declared.operation.Operation.{Operation}
 use Rattle.codes.specs.declared.operation.Operation.the-variants.{TestUnitReady, Rewind, RequestSense, ReadBlockLimits, Read, Write, WriteFilemarks, Space, ModeSelect, Erase, ModeSense, LoadUnload, Locate, ReadPosition, NotServed}
 use Rattle.codes.specs.Fields.{fixedOf, siliOf, transferOf, spaceCodeOf, spaceCountOf, changesPartition, objectOf, partitionOf, loadOf, formOf, dbdOf, allocationOf}
+use Rattle.commands.specs.Kinds.{among, erases}
 use Rattle.transfer.specs.Transfer.{Ended, whole, oddLength, atFilemark, atEnd, Run, runOf, blocksOf, marksOf, fitting, putFrom}
 use Rattle.mode.specs.Mode.{blockLimits, modeData, wholeLength, listRight, newLength, shortPosition, longPosition}
 
@@ -132,23 +133,12 @@ reading d cmd v =
 
 -- ---- WRITE and WRITE FILEMARKS
 
--- what is offered to the tape
+-- what is offered to the tape: by WRITE one block, or blocks of the block length; by WRITE FILEMARKS filemarks; by all else nothing
 unfoldable pub offered : Operation → Drive → List ℕ → List ℕ → List Object
-offered Write d cmd sent = cond (fixedOf cmd) (blocksOf (d .«block_length») (transferOf cmd) sent) (cond (eqb (transferOf cmd) 0) [] (block (take (transferOf cmd) sent) ∷ []))
-offered WriteFilemarks d cmd sent = marksOf (transferOf cmd)
-offered TestUnitReady d cmd sent = []
-offered Rewind d cmd sent = []
-offered RequestSense d cmd sent = []
-offered ReadBlockLimits d cmd sent = []
-offered Read d cmd sent = []
-offered Space d cmd sent = []
-offered ModeSelect d cmd sent = []
-offered Erase d cmd sent = []
-offered ModeSense d cmd sent = []
-offered LoadUnload d cmd sent = []
-offered Locate d cmd sent = []
-offered ReadPosition d cmd sent = []
-offered NotServed d cmd sent = []
+offered o d cmd sent =
+    let n = transferOf cmd in
+    cond (among (Write ∷ []) o) (cond (fixedOf cmd) (blocksOf (d .«block_length») n sent) (cond (eqb n 0) [] (block (take n sent) ∷ [])))
+    (cond (among (WriteFilemarks ∷ []) o) (marksOf n) [])
 
 -- what of it goes down, the first at the position
 unfoldable pub goesDown : Operation → Drive → List ℕ → List ℕ → Seen → List Object
@@ -254,23 +244,14 @@ abbrev pub senseAsked : Drive → List ℕ
 senseAsked d = cond (eqb (d .attention) noAttention) (d .sense) (attentionSense (d .attention))
 
 unfoldable pub replyOf : Operation → Drive → List ℕ → Seen → List ℕ
-replyOf RequestSense d cmd v = limited (allocationOf cmd) (senseAsked d)
-replyOf ReadBlockLimits d cmd v = blockLimits
-replyOf ModeSense d cmd v = limited (allocationOf cmd) (modeData (dbdOf cmd) (v .guarded) (d .«block_length»))
-replyOf ReadPosition d cmd v =
+replyOf o d cmd v =
     let z = zoneAt v (d .position) in
-    cond (eqb (formOf cmd) shortForm) (shortPosition (d .current) (d .position) z) (longPosition (d .current) (d .position) z (filemarksIn (take (d .position) (v .objects))))
-replyOf TestUnitReady d cmd v = []
-replyOf Rewind d cmd v = []
-replyOf Read d cmd v = []
-replyOf Write d cmd v = []
-replyOf WriteFilemarks d cmd v = []
-replyOf Space d cmd v = []
-replyOf ModeSelect d cmd v = []
-replyOf Erase d cmd v = []
-replyOf LoadUnload d cmd v = []
-replyOf Locate d cmd v = []
-replyOf NotServed d cmd v = []
+    cond (among (RequestSense ∷ []) o) (limited (allocationOf cmd) (senseAsked d))
+    (cond (among (ReadBlockLimits ∷ []) o) blockLimits
+    (cond (among (ModeSense ∷ []) o) (limited (allocationOf cmd) (modeData (dbdOf cmd) (v .guarded) (d .«block_length»)))
+    (cond (among (ReadPosition ∷ []) o)
+    (cond (eqb (formOf cmd) shortForm) (shortPosition (d .current) (d .position) z) (longPosition (d .current) (d .position) z (filemarksIn (take (d .position) (v .objects)))))
+    [])))
 
 -- ---- each command
 
@@ -294,21 +275,7 @@ act Locate d cmd sent v = locating d cmd v
 act ReadPosition d cmd sent v = giving (replyOf ReadPosition d cmd v) (good d)
 act NotServed d cmd sent v = good d
 
--- ---- the events that it causes on the partition, by their own clauses
+-- ---- the events that it causes on the partition: ERASE cuts at the position; all else puts what goes down
 
 unfoldable pub eventsOf : Operation → Drive → List ℕ → List ℕ → Seen → List Event
-eventsOf Write d cmd sent v = putFrom (d .position) (goesDown Write d cmd sent v)
-eventsOf WriteFilemarks d cmd sent v = putFrom (d .position) (goesDown WriteFilemarks d cmd sent v)
-eventsOf Erase d cmd sent v = cut (d .position) ∷ []
-eventsOf TestUnitReady d cmd sent v = []
-eventsOf Rewind d cmd sent v = []
-eventsOf RequestSense d cmd sent v = []
-eventsOf ReadBlockLimits d cmd sent v = []
-eventsOf Read d cmd sent v = []
-eventsOf Space d cmd sent v = []
-eventsOf ModeSelect d cmd sent v = []
-eventsOf ModeSense d cmd sent v = []
-eventsOf LoadUnload d cmd sent v = []
-eventsOf Locate d cmd sent v = []
-eventsOf ReadPosition d cmd sent v = []
-eventsOf NotServed d cmd sent v = []
+eventsOf o d cmd sent v = cond (erases o) (cut (d .position) ∷ []) (putFrom (d .position) (goesDown o d cmd sent v))

@@ -4,7 +4,7 @@ use mathlib.Core.Bool.{Bool, true, false, cond, not}
 use mathlib.Core.List.{List, [], _∷_}
 use lib.Dec.{eqb}
 use Rattle.codes.specs.declared.operation.Operation.{Operation}
-use Rattle.codes.specs.declared.operation.Operation.the-variants.{RequestSense, ReadBlockLimits, Write, WriteFilemarks, ModeSelect, Erase, ModeSense, NotServed}
+use Rattle.codes.specs.declared.operation.Operation.the-variants.{RequestSense, ReadBlockLimits, Write, WriteFilemarks, ModeSelect, Erase, ModeSense, Locate, NotServed}
 use Rattle.codes.specs.Codes.{numberOf}
 
 -- o is one of these
@@ -23,6 +23,13 @@ isServed o = not (among (NotServed ∷ []) o)
 -- "03, 05, 15, 1A need no cartridge."
 abbrev pub needsCartridge : Operation → Bool
 needsCartridge o = not (among (RequestSense ∷ ReadBlockLimits ∷ ModeSelect ∷ ModeSense ∷ []) o)
+
+-- ERASE, and LOCATE, which looks at its target
+abbrev pub erases : Operation → Bool
+erases o = among (Erase ∷ []) o
+
+abbrev pub locates : Operation → Bool
+locates o = among (Locate ∷ []) o
 
 -- "protection of the current partition for WRITE, WRITE FILEMARKS and ERASE at any count"
 abbrev pub writes : Operation → Bool

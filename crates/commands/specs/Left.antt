@@ -5,7 +5,7 @@ use mathlib.Core.List.{[]}
 use Rattle.record.specs.Record.{withSense}
 use Rattle.commands.specs.declared.deeds.Left.{Left}
 use Rattle.commands.specs.Act.{Seen, Deed}
-use Rattle.commands.specs.Call.{statusOf, keptOf}
+use Rattle.commands.specs.Step.{statusOf, keptOf}
 
 abbrev pub leftBy : Deed → Left
 leftBy e = record { drive = withSense (e .drive) (keptOf (e .tells)); status = statusOf (e .tells); carried = e .carried }

@@ -1,6 +1,7 @@
 pub mod Stop
 pub mod Kinds
-pub mod Tests
 pub mod Act
+pub mod Tests
+pub mod Step
 pub mod Call
 pub mod Left

@@ -1,7 +1,7 @@
 -- The tests of a command in 01's order ("Command order"), after 1 and 4: attention; operation code; fields; (MODE SELECT's list length); nothing loaded;
 -- LOCATE's partition number or protection; 2 or 3.
 -- Assumes nothing: these are definitions.
-use Prim.Native.Nat.{ℕ, _*_}
+use Prim.Native.Nat.{ℕ, _*_, min}
 use mathlib.Core.Bool.{Bool, false, cond, not, _&&_, _||_}
 use mathlib.Core.List.{List, [], _∷_}
 use lib.Dec.{eqb, leb, ltb}
@@ -12,13 +12,13 @@ use Rattle.sense.specs.Sense.{notReady, illegalRequest, dataProtect}
 use Rattle.record.specs.declared.drive.Drive.{Drive}
 use Rattle.record.specs.Record.{noAttention}
 use Rattle.codes.specs.declared.operation.Operation.{Operation}
-use Rattle.codes.specs.declared.operation.Operation.the-variants.{TestUnitReady, Rewind, RequestSense, ReadBlockLimits, Read, Write, WriteFilemarks, Space, ModeSelect, Erase, ModeSense, LoadUnload, Locate, ReadPosition, NotServed}
+use Rattle.codes.specs.declared.operation.Operation.the-variants.{RequestSense, ReadBlockLimits, Read, Write, Space, ModeSelect, ModeSense, ReadPosition}
 use Rattle.codes.specs.Codes.{masksHold}
-use Rattle.codes.specs.Fields.{fixedOf, siliOf, transferOf, spaceCodeOf, changesPartition, partitionOf, formOf, pageOf, pfOf, allocationOf}
+use Rattle.codes.specs.Fields.{fixedOf, siliOf, transferOf, spaceCodeOf, changesPartition, partitionOf, formOf, dbdOf, pageOf, pfOf, allocationOf}
 use Rattle.commands.specs.Stop.{Stop, refuse, attend, fault}
-use Rattle.commands.specs.Kinds.{among, passesAttention, isServed, needsCartridge, writes}
-use Rattle.mode.specs.Mode.{listLengthKnown}
-use Rattle.commands.specs.Act.{Seen, overBlocks, overFilemarks, toEnd, shortForm, longForm, replyOf}
+use Rattle.commands.specs.Kinds.{among, passesAttention, isServed, needsCartridge, locates, writes}
+use Rattle.mode.specs.Mode.{limitsLength, headerLength, wholeLength, shortLength, longLength, listLengthKnown}
+use Rattle.commands.specs.Act.{Seen, overBlocks, overFilemarks, toEnd, shortForm, longForm, senseAsked}
 
 -- "length × block length (FIXED) or length bytes"
 unfoldable pub bytesAsked : Drive → List ℕ → ℕ
@@ -26,50 +26,53 @@ bytesAsked d cmd = cond (fixedOf cmd) (transferOf cmd * d .«block_length») (tr
 
 -- the field errors beyond the masks, by command
 unfoldable pub fieldError : Operation → Drive → List ℕ → Bool
--- "Both, or FIXED with block length 0"
-fieldError Read d cmd = fixedOf cmd && (siliOf cmd || eqb (d .«block_length») 0)
--- "FIXED .. as READ; variable length above 65,536"
-fieldError Write d cmd = cond (fixedOf cmd) (eqb (d .«block_length») 0) (ltb largestBlock (transferOf cmd))
--- "Other codes than 0, 1, 3"
-fieldError Space d cmd = not (eqb (spaceCodeOf cmd) overBlocks || eqb (spaceCodeOf cmd) overFilemarks || eqb (spaceCodeOf cmd) toEnd)
--- "PF must be 1"
-fieldError ModeSelect d cmd = not (pfOf cmd)
--- "page 00h or 3Fh, else field error"
-fieldError ModeSense d cmd = not (eqb (pageOf cmd) 0x00 || eqb (pageOf cmd) 0x3F)
--- "other forms field error"
-fieldError ReadPosition d cmd = not (eqb (formOf cmd) shortForm || eqb (formOf cmd) longForm)
-fieldError TestUnitReady d cmd = false
-fieldError Rewind d cmd = false
-fieldError RequestSense d cmd = false
-fieldError ReadBlockLimits d cmd = false
-fieldError WriteFilemarks d cmd = false
-fieldError Erase d cmd = false
-fieldError LoadUnload d cmd = false
-fieldError Locate d cmd = false
-fieldError NotServed d cmd = false
+fieldError o d cmd =
+    -- "Both, or FIXED with block length 0"
+    cond (among (Read ∷ []) o) (fixedOf cmd && (siliOf cmd || eqb (d .«block_length») 0))
+    -- "FIXED .. as READ; variable length above 65,536"
+    (cond (among (Write ∷ []) o) (cond (fixedOf cmd) (eqb (d .«block_length») 0) (ltb largestBlock (transferOf cmd)))
+    -- "Other codes than 0, 1, 3"
+    (cond (among (Space ∷ []) o) (not (eqb (spaceCodeOf cmd) overBlocks || eqb (spaceCodeOf cmd) overFilemarks || eqb (spaceCodeOf cmd) toEnd))
+    -- "PF must be 1"
+    (cond (among (ModeSelect ∷ []) o) (not (pfOf cmd))
+    -- "page 00h or 3Fh, else field error"
+    (cond (among (ModeSense ∷ []) o) (not (eqb (pageOf cmd) 0x00 || eqb (pageOf cmd) 0x3F))
+    -- "other forms field error"
+    (cond (among (ReadPosition ∷ []) o) (not (eqb (formOf cmd) shortForm || eqb (formOf cmd) longForm))
+    false)))))
 
 -- how many bytes the command takes from the data sent
 unfoldable pub taken : Operation → Drive → List ℕ → ℕ
 taken o d cmd = cond (among (Write ∷ []) o) (bytesAsked d cmd) (cond (among (ModeSelect ∷ []) o) (allocationOf cmd) 0)
 
+-- how long its reply is: the same whatever it sees
+unfoldable pub replyLength : Operation → Drive → List ℕ → ℕ
+replyLength o d cmd =
+    cond (among (RequestSense ∷ []) o) (min (allocationOf cmd) (length (senseAsked d)))
+    (cond (among (ReadBlockLimits ∷ []) o) limitsLength
+    (cond (among (ModeSense ∷ []) o) (min (allocationOf cmd) (cond (dbdOf cmd) headerLength wholeLength))
+    (cond (among (ReadPosition ∷ []) o) (cond (eqb (formOf cmd) shortForm) shortLength longLength)
+    0)))
+
 -- how many bytes of the receiving buffer it may need
-unfoldable pub needed : Operation → Drive → List ℕ → Seen → ℕ
-needed o d cmd v = cond (among (Read ∷ []) o) (bytesAsked d cmd) (length (replyOf o d cmd v))
+unfoldable pub needed : Operation → Drive → List ℕ → ℕ
+needed o d cmd = cond (among (Read ∷ []) o) (bytesAsked d cmd) (replyLength o d cmd)
 
 -- "fields (5/24/00)"
 abbrev pub fieldFault : Stop
 fieldFault = fault illegalRequest 0x24 0x00
 
-unfoldable pub tests : Operation → Drive → List ℕ → Seen → List ℕ → List ℕ → List (Bool × Stop)
-tests o d cmd v sent received =
+-- `room` is the length of the receiving buffer
+unfoldable pub tests : Operation → Drive → List ℕ → Seen → List ℕ → ℕ → List (Bool × Stop)
+tests o d cmd v sent room =
     (not (eqb (d .attention) noAttention) && not (passesAttention o), attend)
     ∷ (not (isServed o), fault illegalRequest 0x20 0x00)
     ∷ (not (masksHold cmd) || fieldError o d cmd, fieldFault)
     -- "else 5/1A/00, tested just after the fields"
     ∷ (among (ModeSelect ∷ []) o && not (listLengthKnown (allocationOf cmd)), fault illegalRequest 0x1A 0x00)
     ∷ (needsCartridge o && eqb (d .loaded) 0, fault notReady 0x3A 0x00)
-    ∷ (among (Locate ∷ []) o && changesPartition cmd && leb (d .partitions) (partitionOf cmd), fieldFault)
+    ∷ (locates o && changesPartition cmd && leb (d .partitions) (partitionOf cmd), fieldFault)
     ∷ (writes o && v .guarded, fault dataProtect 0x27 0x00)
     ∷ (ltb (length sent) (taken o d cmd), refuse sentShort)
-    ∷ (ltb (length received) (needed o d cmd v), refuse receivedShort)
+    ∷ (ltb room (needed o d cmd), refuse receivedShort)
     ∷ []

@@ -15,8 +15,9 @@ use Rattle.codes.specs.Fields.{fixedOf, siliOf, transferOf, spaceCodeOf, spaceC
 use Rattle.commands.specs.Stop.{first}
 use Rattle.transfer.specs.Transfer.{runOf, blocksOf, marksOf, fitting, putFrom}
 use Rattle.commands.specs.Act.{hidden, readVariable, runTells, reading, offered, goesDown, wrote, writing, marking, spaceTells, spacing, targetOf, locating, selecting, replyOf, act, eventsOf}
-use Rattle.commands.specs.Tests.{bytesAsked, fieldError, taken, needed, tests}
-use Rattle.commands.specs.Call.{looksAt, seenOf, seen, inserted, stopped, statusOf, keptOf, changed, acted, decided, commandTests, commandCall}
+use Rattle.commands.specs.Tests.{bytesAsked, fieldError, taken, replyLength, needed, tests}
+use Rattle.commands.specs.Step.{statusOf, keptOf, stopped, acted, unless, step}
+use Rattle.commands.specs.Call.{looksAt, seenOf, seen, inserted, laidOut, applied, stepOf, called, commandCall}
 use Rattle.mode.specs.Mode.{blockLimits, modeData, listLengthKnown, headerRight, descriptorRight, listRight, shortPosition, longPosition}
 use Rattle.edges.specs.Cases.{Edges, cases, blank64, ten, filemarks}
 use Rattle.edges.specs.Traps.{Traps, traps, full, guarded}
@@ -27,7 +28,7 @@ unfolding Edges cases blank64 ten filemarks E be bytes over signed wrapped bytes
     senseBytes reports told emptySense attentionSense decodeOf encodeOf attentionKnown emptyHanded placed wellFormed wellRecord withSense tooShort inMasks masksHold
     fixedOf siliOf transferOf spaceCodeOf spaceCountOf longOf changesPartition objectOf partitionOf loadOf formOf dbdOf pageOf pfOf allocationOf
     first runOf blocksOf marksOf fitting putFrom hidden readVariable runTells reading offered goesDown wrote writing marking spaceTells spacing targetOf locating selecting replyOf act eventsOf
-    bytesAsked fieldError taken needed tests looksAt seenOf seen inserted stopped statusOf keptOf changed acted decided commandTests commandCall
+    bytesAsked fieldError taken replyLength needed tests statusOf keptOf stopped acted unless step looksAt seenOf seen inserted laidOut applied stepOf called commandCall
 edges = (refl, (refl, (refl, (refl, (refl, (refl, (refl, (refl, (refl, (refl, (refl, (refl, (refl, (refl, (refl, tt)))))))))))))))
 
 -- and the cases beside the table
@@ -37,5 +38,5 @@ unfolding Traps traps full guarded blank64 ten E be bytes over signed wrapped by
     senseBytes reports told emptySense attentionSense decodeOf encodeOf attentionKnown emptyHanded placed wellFormed wellRecord withSense tooShort inMasks masksHold
     fixedOf siliOf transferOf spaceCodeOf spaceCountOf longOf changesPartition objectOf partitionOf loadOf formOf dbdOf pageOf pfOf allocationOf
     first runOf blocksOf marksOf fitting putFrom hidden readVariable runTells reading offered goesDown wrote writing marking spaceTells spacing targetOf locating selecting replyOf act eventsOf
-    bytesAsked fieldError taken needed tests looksAt seenOf seen inserted stopped statusOf keptOf changed acted decided commandTests commandCall protect reflag blockLimits modeData listLengthKnown headerRight descriptorRight listRight shortPosition longPosition unloaded loadedAnew
+    bytesAsked fieldError taken replyLength needed tests statusOf keptOf stopped acted unless step looksAt seenOf seen inserted laidOut applied stepOf called commandCall protect reflag blockLimits modeData listLengthKnown headerRight descriptorRight listRight shortPosition longPosition unloaded loadedAnew
 trapped = (refl, (refl, (refl, (refl, (refl, (refl, (refl, (refl, (refl, (refl, (refl, (refl, (refl, (refl, (refl, (refl, (refl, (refl, (refl, (refl, (refl, (refl, (refl, (refl, (refl, (refl, (refl, (refl, (refl, (refl, (refl, (refl, tt))))))))))))))))))))))))))))))))

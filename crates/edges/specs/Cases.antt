@@ -9,7 +9,7 @@ use Rattle.objects.specs.Object.{filemark, block}
 use Rattle.objects.specs.Events.{Event, put}
 use Rattle.image.specs.Changes.{occurs, blank}
 use Rattle.image.proofs.Example.{E}
-use Rattle.commands.specs.Call.{Result, result, commandCall}
+use Rattle.commands.specs.Call.{lent, Result, result, commandCall}
 
 pub record Case : Type 0 where
   -- in: the position, the block length, the cartridge, the command, the bytes sent
@@ -43,12 +43,12 @@ buffer = replicate 16 0xFF
 
 -- the whole call, and what is left by it
 abbrev pub called : Case → Result
-called c = commandCall (recordAt (c .from) (c .blockLength) nothingKept) (c .command) (c .cartridge) [] (c .sent) buffer
+called c = commandCall (recordAt (c .from) (c .blockLength) nothingKept) (lent (c .command) (c .cartridge) [] (c .sent) buffer)
 
 abbrev pub expected : Case → Result
 expected c =
-    result (record { refusal = 0; status = c .status; carried = c .carried }) (recordAt (c .to) (c .blockLength) (c .sense)) (occurs (c .puts) (c .cartridge)) []
-    (over buffer 0 (c .received))
+    result (record { refusal = 0; status = c .status; carried = c .carried }) (recordAt (c .to) (c .blockLength) (c .sense))
+    (lent (c .command) (occurs (c .puts) (c .cartridge)) [] (c .sent) (over buffer 0 (c .received)))
 
 -- every case of a list is as expected
 unfoldable pub Edges : List Case → Type 0

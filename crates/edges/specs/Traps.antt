@@ -12,22 +12,18 @@ use Rattle.objects.specs.Object.{block}
 use Rattle.objects.specs.Events.{put}
 use Rattle.image.specs.Changes.{occurs, protect}
 use Rattle.image.proofs.Example.{E}
-use Rattle.commands.specs.Call.{Result, result, commandCall}
+use Rattle.commands.specs.Call.{Lent, lent, Result, result, commandCall}
 use Rattle.edges.specs.Cases.{line, nothingKept, six, blank64, ten}
 
 pub record Trap : Type 0 where
   pub rec : List ℕ
-  pub command : List ℕ
-  pub part0 : List ℕ
-  pub part1 : List ℕ
-  pub sent : List ℕ
-  pub received : List ℕ
+  pub lends : Lent
   pub leaves : Result
 
 -- every one of a list is as it should be
 unfoldable pub Traps : List Trap → Type 0
 Traps [] = Unit {0}
-Traps (t ∷ ts) = (commandCall (t .rec) (t .command) (t .part0) (t .part1) (t .sent) (t .received) ≡ t .leaves) × Traps ts
+Traps (t ∷ ts) = (commandCall (t .rec) (t .lends) ≡ t .leaves) × Traps ts
 
 -- ---- records: attention, position, block length, kept sense, on one partition; and with nothing loaded
 
@@ -53,11 +49,11 @@ check carried = record { refusal = 0; status = 2; carried = carried }
 
 abbrev pub alone : List ℕ → List ℕ → List ℕ → List ℕ → List ℕ → Answer → List ℕ → List ℕ → List ℕ → Trap
 alone rec command part sent received answer rec′ part′ received′ =
-    record { rec = rec; command = command; part0 = part; part1 = []; sent = sent; received = received; leaves = result answer rec′ part′ [] received′ }
+    record { rec = rec; lends = lent command part [] sent received; leaves = result answer rec′ (lent command part′ [] sent received′) }
 
 -- refused by a number: everything stays
 abbrev pub refuses : ℕ → List ℕ → List ℕ → List ℕ → List ℕ → Trap
-refuses n rec command p0 p1 = record { rec = rec; command = command; part0 = p0; part1 = p1; sent = []; received = []; leaves = result (refused n) rec p0 p1 [] }
+refuses n rec command p0 p1 = record { rec = rec; lends = lent command p0 p1 [] []; leaves = result (refused n) rec (lent command p0 p1 [] []) }
 
 -- a command with no data whose only trace is the record
 abbrev pub turns : List ℕ → List ℕ → List ℕ → Answer → List ℕ → Trap

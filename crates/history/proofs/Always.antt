@@ -28,26 +28,28 @@ use Rattle.codes.specs.Fields.{changesPartition, partitionOf}
 use Rattle.cartridge.specs.Mount.{absent, partitionsOf, rightLengths, bothSound, mountFault, mountCall}
 use Rattle.transfer.specs.Transfer.{putFrom}
 use Rattle.commands.specs.Stop.{refuse, first}
-use Rattle.commands.specs.Kinds.{among, needsCartridge}
+use Rattle.commands.specs.Kinds.{erases, locates, needsCartridge}
 use Rattle.commands.specs.Act.{Seen, at, targetOf, goesDown, act, eventsOf}
 use Rattle.commands.specs.Tests.{tests}
-use Rattle.commands.specs.Call.{Result, partition, looksAt, seen, seenOf, inserted, changed, acted, written, keptOf, commandTests, commandCall}
+use Rattle.commands.specs.Step.{acted, keptOf}
+use Rattle.commands.specs.Call.{lent, Result, partition, looksAt, seen, seenOf, inserted, written, commandTests, commandCall, laidOut, applied}
 use Rattle.commands.proofs.Exact.{refused-4}
 use Rattle.image.proofs.Judged.{never-both}
-use Rattle.steps.proofs.Passed.{Passed, passed}
+use Rattle.commands.proofs.Passed.{Passed, passed}
+use Rattle.commands.proofs.Classes.{unchanged}
 use Rattle.history.specs.History.{Slot, slot0, slot1, Cartridge, cartridge, protection, slicesLeft, after, ends}
 use Rattle.history.specs.Demand3.{NoFault}
 use Rattle.history.specs.Always.{Use, sends, mounts, protects, callsOf, recordUsed, AlwaysSo}
 use Rattle.history.proofs.Faultless.{Cart, no-cart, one-part, two-parts, Well, well-test, fault-free, no-fault, empty-whole}
 use Rattle.history.proofs.Turned.{offered-kept, put-place, cut-turned}
 use Rattle.history.proofs.Ended.{Ended, by-number, by-sense, by-act, ended, calm-well}
-use Rattle.history.proofs.Acted.{inside, seen-loaded, acts, unaltered, sees, shaped, turned, alters, writing-drive, marking-drive, kept-whole}
+use Rattle.history.proofs.Acted.{inside, seen-there, acts, unaltered, sees, shaped, turned, alters, writing-drive, marking-drive, kept-whole}
 use Rattle.history.proofs.Told.{protect-turned}
 use Rattle.history.proofs.Moved.{Moves, current-in, moved-cart, moved-well, loaded-well, selected-well, reading-moves, spacing-moves, located-well}
 
 -- ---- a command that acts
 
-as-left : (e : Drive) (r : Result) (c : Cartridge) → slicesLeft r ≡ c → Well e (c .part0) (c .part1) → Well e (r .part0) (r .part1)
+as-left : (e : Drive) (r : Result) (c : Cartridge) → slicesLeft r ≡ c → Well e (c .part0) (c .part1) → Well e (r .lent .part0) (r .lent .part1)
 as-left e r c h k = subst (λ (x : Cartridge). Well e (x .part0) (x .part1)) (sym h) k
 
 from-moves : (d : Drive) (p0 p1 : List ℕ) (n : ℕ) (e : Drive) → Well d p0 p1 → (d .loaded ≡ 0 → ⊥) → Moves d n e → n ≡ count (partition (d .current) p0 p1) → Well e p0 p1
@@ -55,13 +57,13 @@ from-moves d p0 p1 n e w l m h = rw (m .is) (moved-well d p0 p1 (m .to) w l (ome
 
 module _ (rec cmd p0 p1 sent received : List ℕ) (w : Well (decodeOf rec) p0 p1) where
   abbrev Passes : Operation → Type 0
-  Passes o = first (tests o (decodeOf rec) cmd (seen o (decodeOf rec) cmd p0 p1) sent received) ≡ none
+  Passes o = first (tests o (decodeOf rec) cmd (seen o (decodeOf rec) (lent cmd p0 p1 sent received)) sent (length received)) ≡ none
 
   abbrev After : Operation → Type 0
-  After o = Well ((act o (decodeOf rec) cmd sent (seen o (decodeOf rec) cmd p0 p1)) .drive) ((written rec (acted o (decodeOf rec) cmd p0 p1 sent received (seen o (decodeOf rec) cmd p0 p1))) .part0) ((written rec (acted o (decodeOf rec) cmd p0 p1 sent received (seen o (decodeOf rec) cmd p0 p1))) .part1)
+  After o = Well ((act o (decodeOf rec) cmd sent (seen o (decodeOf rec) (lent cmd p0 p1 sent received))) .drive) ((written rec (applied (acted o (decodeOf rec) cmd sent (seen o (decodeOf rec) (lent cmd p0 p1 sent received))) (looksAt o (decodeOf rec) cmd) (lent cmd p0 p1 sent received))) .lent .part0) ((written rec (applied (acted o (decodeOf rec) cmd sent (seen o (decodeOf rec) (lent cmd p0 p1 sent received))) (looksAt o (decodeOf rec) cmd) (lent cmd p0 p1 sent received))) .lent .part1)
 
   put-after : (o : Operation) (eo : operationOf (codeOf cmd) ≡ o) (l : decodeOf rec .loaded ≡ 0 → ⊥) (nl : (d : Drive) → looksAt o d cmd ≡ d .current)
-      (q : Passed o (decodeOf rec) cmd (seen o (decodeOf rec) cmd p0 p1) sent received) (ne : among (Erase ∷ []) o ≡ false)
+      (q : Passed o (decodeOf rec) cmd (seen o (decodeOf rec) (lent cmd p0 p1 sent received)) sent (length received)) (ne : erases o ≡ false)
       (ev : (v : Seen) → eventsOf o (decodeOf rec) cmd sent v ≡ putFrom (decodeOf rec .position) (goesDown o (decodeOf rec) cmd sent v))
       (dr : (v : Seen) → (act o (decodeOf rec) cmd sent v) .drive ≡ at (decodeOf rec) (decodeOf rec .position + length (goesDown o (decodeOf rec) cmd sent v))) → After o
   put-after o eo l nl q ne ev dr =
@@ -71,24 +73,24 @@ module _ (rec cmd p0 p1 sent received : List ℕ) (w : Well (decodeOf rec) p0 p1
       let t = turned rec cmd p0 p1 sent received o eo i nl (w .small) q ne ev dr in
       let a = put-place (decodeOf rec) cmd sent p (i .right) (i .place) o (offered-kept o (decodeOf rec) cmd sent (w .small) (q .fields) (q .sends)) in
       let c = moved-cart (decodeOf rec) p0 p1 (occurs (putFrom (decodeOf rec .position) os)) (decodeOf rec .position + length os) (w .cart) l (t .sound) a in
-      let e : (act o (decodeOf rec) cmd sent (seen o (decodeOf rec) cmd p0 p1)) .drive ≡ at (decodeOf rec) (decodeOf rec .position + length os)
+      let e : (act o (decodeOf rec) cmd sent (seen o (decodeOf rec) (lent cmd p0 p1 sent received))) .drive ≡ at (decodeOf rec) (decodeOf rec .position + length os)
       = ap (λ (v : Seen). (act o (decodeOf rec) cmd sent v) .drive) (sees rec cmd p0 p1 sent received o eo i nl) ∙ dr (seenOf p) in
       as-left _ (acts rec cmd p0 p1 sent received o eo) _ (shaped rec cmd p0 p1 sent received o eo i nl (occurs (putFrom (decodeOf rec .position) os)) (alters rec cmd p0 p1 sent received o eo i nl (w .small) q ne ev dr))
       (rw e (record { attention = w .attention; small = w .small; cart = c }))
 
   -- one that alters nothing on a partition
-  idle-after : (o : Operation) (eo : operationOf (codeOf cmd) ≡ o) → ((v : Seen) (p : List ℕ) → changed o (decodeOf rec) cmd sent v p ≡ p) → Well ((act o (decodeOf rec) cmd sent (seen o (decodeOf rec) cmd p0 p1)) .drive) p0 p1 → After o
+  idle-after : (o : Operation) (eo : operationOf (codeOf cmd) ≡ o) → ((v : Seen) (p : List ℕ) → laidOut (acted o (decodeOf rec) cmd sent v) p ≡ p) → Well ((act o (decodeOf rec) cmd sent (seen o (decodeOf rec) (lent cmd p0 p1 sent received))) .drive) p0 p1 → After o
   idle-after o eo c k = as-left _ (acts rec cmd p0 p1 sent received o eo) _ (unaltered rec cmd p0 p1 sent received o eo c) k
 
   module _ (o : Operation) (eo : operationOf (codeOf cmd) ≡ o) (nl : (d : Drive) → looksAt o d cmd ≡ d .current) (l : decodeOf rec .loaded ≡ 0 → ⊥) where
-    moves-after : ((v : Seen) → decodeOf rec .position ≤ length (v .objects) → Moves (decodeOf rec) (length (v .objects)) ((act o (decodeOf rec) cmd sent v) .drive)) → Well ((act o (decodeOf rec) cmd sent (seen o (decodeOf rec) cmd p0 p1)) .drive) p0 p1
+    moves-after : ((v : Seen) → decodeOf rec .position ≤ length (v .objects) → Moves (decodeOf rec) (length (v .objects)) ((act o (decodeOf rec) cmd sent v) .drive)) → Well ((act o (decodeOf rec) cmd sent (seen o (decodeOf rec) (lent cmd p0 p1 sent received))) .drive) p0 p1
     unfolding seenOf
     moves-after m =
         let i = inside (decodeOf rec) p0 p1 (w .cart) l in
         let p : List ℕ = partition (decodeOf rec .current) p0 p1 in
         rw (sees rec cmd p0 p1 sent received o eo i nl) (from-moves (decodeOf rec) p0 p1 (length (objects p)) _ w l (m (seenOf p) (omega (arith, i .place, length-objects p))) (length-objects p))
 
-  target-in : (d : Drive) → among (Locate ∷ []) Locate && changesPartition cmd && leb (d .partitions) (partitionOf cmd) ≡ false → d .current < d .partitions → targetOf d cmd < d .partitions
+  target-in : (d : Drive) → locates Locate && changesPartition cmd && leb (d .partitions) (partitionOf cmd) ≡ false → d .current < d .partitions → targetOf d cmd < d .partitions
   unfolding targetOf
   target-in d e h = go (changesPartition cmd) e
     where
@@ -96,80 +98,80 @@ module _ (rec cmd p0 p1 sent received : List ℕ) (w : Well (decodeOf rec) p0 p1
       go true q = leb-false (d .partitions) (partitionOf cmd) q
       go false q = h
 
-  locate-after : operationOf (codeOf cmd) ≡ Locate → Passes Locate → Well ((act Locate (decodeOf rec) cmd sent (seen Locate (decodeOf rec) cmd p0 p1)) .drive) p0 p1
+  locate-after : operationOf (codeOf cmd) ≡ Locate → Passes Locate → Well ((act Locate (decodeOf rec) cmd sent (seen Locate (decodeOf rec) (lent cmd p0 p1 sent received))) .drive) p0 p1
   unfolding act seenOf looksAt
   locate-after e q =
-      let k = passed Locate (decodeOf rec) cmd (seen Locate (decodeOf rec) cmd p0 p1) sent received q in
+      let k = passed Locate (decodeOf rec) cmd (seen Locate (decodeOf rec) (lent cmd p0 p1 sent received)) sent (length received) q in
       let l = eqb-false (decodeOf rec .loaded) 0 (k .ready) in
       let i = inside (decodeOf rec) p0 p1 (w .cart) l in
       let p : List ℕ = partition (targetOf (decodeOf rec) cmd) p0 p1 in
-      rw (seen-loaded Locate (decodeOf rec) cmd p0 p1 (i .is)) (located-well (decodeOf rec) p0 p1 cmd (seenOf p) w l (target-in (decodeOf rec) (k .there) (current-in (decodeOf rec) p0 p1 (w .cart) l)) (length-objects p))
+      rw (seen-there Locate (decodeOf rec) (lent cmd p0 p1 sent received) (target-in (decodeOf rec) (k .there) (current-in (decodeOf rec) p0 p1 (w .cart) l))) (located-well (decodeOf rec) p0 p1 cmd (seenOf p) w l (target-in (decodeOf rec) (k .there) (current-in (decodeOf rec) p0 p1 (w .cart) l)) (length-objects p))
 
   erase-after : operationOf (codeOf cmd) ≡ Erase → Passes Erase → After Erase
   unfolding act looksAt happens happen
   erase-after e q =
-      let k = passed Erase (decodeOf rec) cmd (seen Erase (decodeOf rec) cmd p0 p1) sent received q in
+      let k = passed Erase (decodeOf rec) cmd (seen Erase (decodeOf rec) (lent cmd p0 p1 sent received)) sent (length received) q in
       let l = eqb-false (decodeOf rec .loaded) 0 (k .ready) in
       let i = inside (decodeOf rec) p0 p1 (w .cart) l in
       let p : List ℕ = partition (decodeOf rec .current) p0 p1 in
-      let v : Seen = seen Erase (decodeOf rec) cmd p0 p1 in
+      let v : Seen = seen Erase (decodeOf rec) (lent cmd p0 p1 sent received) in
       let t = cut-turned (decodeOf rec) cmd sent p (i .right) (i .place) v in
-      let n : length (objects (changed Erase (decodeOf rec) cmd sent v p)) ≡ length (take (decodeOf rec .position) (objects p)) = ap length (t .makes) in
-      let c = moved-cart (decodeOf rec) p0 p1 (changed Erase (decodeOf rec) cmd sent v) (decodeOf rec .position) (w .cart) l (t .sound)
-      (omega (arith, n, length-take (decodeOf rec .position) (objects p), length-objects p, length-objects (changed Erase (decodeOf rec) cmd sent v p), i .place)) in
-      as-left _ (acts rec cmd p0 p1 sent received Erase e) _ (shaped rec cmd p0 p1 sent received Erase e i (λ d. refl) (changed Erase (decodeOf rec) cmd sent v) (λ p. refl))
+      let n : length (objects (laidOut (acted Erase (decodeOf rec) cmd sent v) p)) ≡ length (take (decodeOf rec .position) (objects p)) = ap length (t .makes) in
+      let c = moved-cart (decodeOf rec) p0 p1 (laidOut (acted Erase (decodeOf rec) cmd sent v)) (decodeOf rec .position) (w .cart) l (t .sound)
+      (omega (arith, n, length-take (decodeOf rec .position) (objects p), length-objects p, length-objects (laidOut (acted Erase (decodeOf rec) cmd sent v) p), i .place)) in
+      as-left _ (acts rec cmd p0 p1 sent received Erase e) _ (shaped rec cmd p0 p1 sent received Erase e i (λ d. refl) (laidOut (acted Erase (decodeOf rec) cmd sent v)) (λ p. refl))
       (record { attention = w .attention; small = w .small; cart = c })
 
   is-loaded : (o : Operation) → needsCartridge o ≡ true → Passes o → decodeOf rec .loaded ≡ 0 → ⊥
-  is-loaded o n q = eqb-false (decodeOf rec .loaded) 0 (rw n at (passed o (decodeOf rec) cmd (seen o (decodeOf rec) cmd p0 p1) sent received q .ready))
+  is-loaded o n q = eqb-false (decodeOf rec .loaded) 0 (rw n at (passed o (decodeOf rec) cmd (seen o (decodeOf rec) (lent cmd p0 p1 sent received)) sent (length received) q .ready))
 
   acts-after : (o : Operation) → operationOf (codeOf cmd) ≡ o → Passes o → After o
-  unfolding act changed eventsOf occurs looksAt
-  acts-after Write e q = put-after Write e (is-loaded Write refl q) (λ d. refl) (passed Write (decodeOf rec) cmd (seen Write (decodeOf rec) cmd p0 p1) sent received q) refl (λ v. refl) (λ v. writing-drive (decodeOf rec) cmd sent v)
-  acts-after WriteFilemarks e q = put-after WriteFilemarks e (is-loaded WriteFilemarks refl q) (λ d. refl) (passed WriteFilemarks (decodeOf rec) cmd (seen WriteFilemarks (decodeOf rec) cmd p0 p1) sent received q) refl (λ v. refl) (λ v. marking-drive (decodeOf rec) cmd sent v)
+  unfolding act eventsOf looksAt
+  acts-after Write e q = put-after Write e (is-loaded Write refl q) (λ d. refl) (passed Write (decodeOf rec) cmd (seen Write (decodeOf rec) (lent cmd p0 p1 sent received)) sent (length received) q) refl (λ v. refl) (λ v. writing-drive (decodeOf rec) cmd sent v)
+  acts-after WriteFilemarks e q = put-after WriteFilemarks e (is-loaded WriteFilemarks refl q) (λ d. refl) (passed WriteFilemarks (decodeOf rec) cmd (seen WriteFilemarks (decodeOf rec) (lent cmd p0 p1 sent received)) sent (length received) q) refl (λ v. refl) (λ v. marking-drive (decodeOf rec) cmd sent v)
   acts-after Erase e q = erase-after e q
-  acts-after TestUnitReady e q = idle-after TestUnitReady e (λ v p. refl) w
-  acts-after Rewind e q = idle-after Rewind e (λ v p. refl) (moved-well (decodeOf rec) p0 p1 0 w (is-loaded Rewind refl q) zero-le)
-  acts-after RequestSense e q = idle-after RequestSense e (λ v p. refl) (calm-well (decodeOf rec) p0 p1 w)
-  acts-after ReadBlockLimits e q = idle-after ReadBlockLimits e (λ v p. refl) w
-  acts-after Read e q = idle-after Read e (λ v p. refl) (moves-after Read e (λ d. refl) (is-loaded Read refl q) (λ v h. reading-moves (decodeOf rec) cmd v h))
-  acts-after Space e q = idle-after Space e (λ v p. refl) (moves-after Space e (λ d. refl) (is-loaded Space refl q) (λ v h. spacing-moves (decodeOf rec) cmd v h))
-  acts-after ModeSelect e q = idle-after ModeSelect e (λ v p. refl) (selected-well (decodeOf rec) p0 p1 cmd sent w)
-  acts-after ModeSense e q = idle-after ModeSense e (λ v p. refl) w
-  acts-after LoadUnload e q = idle-after LoadUnload e (λ v p. refl) (loaded-well (decodeOf rec) p0 p1 cmd w (is-loaded LoadUnload refl q))
-  acts-after Locate e q = idle-after Locate e (λ v p. refl) (locate-after e q)
-  acts-after ReadPosition e q = idle-after ReadPosition e (λ v p. refl) w
-  acts-after NotServed e q = idle-after NotServed e (λ v p. refl) w
+  acts-after TestUnitReady e q = idle-after TestUnitReady e (unchanged TestUnitReady refl (decodeOf rec) cmd sent) w
+  acts-after Rewind e q = idle-after Rewind e (unchanged Rewind refl (decodeOf rec) cmd sent) (moved-well (decodeOf rec) p0 p1 0 w (is-loaded Rewind refl q) zero-le)
+  acts-after RequestSense e q = idle-after RequestSense e (unchanged RequestSense refl (decodeOf rec) cmd sent) (calm-well (decodeOf rec) p0 p1 w)
+  acts-after ReadBlockLimits e q = idle-after ReadBlockLimits e (unchanged ReadBlockLimits refl (decodeOf rec) cmd sent) w
+  acts-after Read e q = idle-after Read e (unchanged Read refl (decodeOf rec) cmd sent) (moves-after Read e (λ d. refl) (is-loaded Read refl q) (λ v h. reading-moves (decodeOf rec) cmd v h))
+  acts-after Space e q = idle-after Space e (unchanged Space refl (decodeOf rec) cmd sent) (moves-after Space e (λ d. refl) (is-loaded Space refl q) (λ v h. spacing-moves (decodeOf rec) cmd v h))
+  acts-after ModeSelect e q = idle-after ModeSelect e (unchanged ModeSelect refl (decodeOf rec) cmd sent) (selected-well (decodeOf rec) p0 p1 cmd sent w)
+  acts-after ModeSense e q = idle-after ModeSense e (unchanged ModeSense refl (decodeOf rec) cmd sent) w
+  acts-after LoadUnload e q = idle-after LoadUnload e (unchanged LoadUnload refl (decodeOf rec) cmd sent) (loaded-well (decodeOf rec) p0 p1 cmd w (is-loaded LoadUnload refl q))
+  acts-after Locate e q = idle-after Locate e (unchanged Locate refl (decodeOf rec) cmd sent) (locate-after e q)
+  acts-after ReadPosition e q = idle-after ReadPosition e (unchanged ReadPosition refl (decodeOf rec) cmd sent) w
+  acts-after NotServed e q = idle-after NotServed e (unchanged NotServed refl (decodeOf rec) cmd sent) w
 
 -- ---- every call of a command
 
 abbrev Faultless : Result → Type 0
 Faultless r = NoFault (r .rec) (slicesLeft r)
 
-pub command-faultless : (rec cmd p0 p1 sent received : List ℕ) → NoFault rec (cartridge p0 p1) → Faultless (commandCall rec cmd p0 p1 sent received)
-unfolding acted
+pub command-faultless : (rec cmd p0 p1 sent received : List ℕ) → NoFault rec (cartridge p0 p1) → Faultless (commandCall rec (lent cmd p0 p1 sent received))
+unfolding applied acted
 command-faultless rec cmd p0 p1 sent received h = go (ended rec cmd p0 p1 sent received)
   where
-    go : Ended rec cmd p0 p1 sent received → Faultless (commandCall rec cmd p0 p1 sent received)
+    go : Ended rec cmd p0 p1 sent received → Faultless (commandCall rec (lent cmd p0 p1 sent received))
     go (by-number n k f e) = subst Faultless (sym e) h
     go (by-sense z f x b w p l e) = subst Faultless (sym e) (no-fault x b p0 p1 w l)
     go (by-act f w q e) =
         let o : Operation = operationOf (codeOf cmd) in
-        let x = act o (decodeOf rec) cmd sent (seen o (decodeOf rec) cmd p0 p1) in
-        let r : Result = written rec (acted o (decodeOf rec) cmd p0 p1 sent received (seen o (decodeOf rec) cmd p0 p1)) in
-        let y : wellRecord (encodeOf (withSense (x .drive) (keptOf (x .tells)))) && inserted (decodeOf (encodeOf (withSense (x .drive) (keptOf (x .tells))))) (r .part0) (r .part1) ≡ true
-        = no-fault (x .drive) (keptOf (x .tells)) (r .part0) (r .part1) (acts-after rec cmd p0 p1 sent received w o refl q) (kept-whole (x .tells)) in
+        let x = act o (decodeOf rec) cmd sent (seen o (decodeOf rec) (lent cmd p0 p1 sent received)) in
+        let r : Result = written rec (applied (acted o (decodeOf rec) cmd sent (seen o (decodeOf rec) (lent cmd p0 p1 sent received))) (looksAt o (decodeOf rec) cmd) (lent cmd p0 p1 sent received)) in
+        let y : wellRecord (encodeOf (withSense (x .drive) (keptOf (x .tells)))) && inserted (decodeOf (encodeOf (withSense (x .drive) (keptOf (x .tells))))) (r .lent .part0) (r .lent .part1) ≡ true
+        = no-fault (x .drive) (keptOf (x .tells)) (r .lent .part0) (r .lent .part1) (acts-after rec cmd p0 p1 sent received w o refl q) (kept-whole (x .tells)) in
         subst Faultless (sym e) y
 
 -- and no command is refused with 4
-pub never-four : (rec cmd p0 p1 sent received : List ℕ) → NoFault rec (cartridge p0 p1) → commandCall rec cmd p0 p1 sent received .answer .refusal ≡ 4 → ⊥
-unfolding acted commandTests
+pub never-four : (rec cmd p0 p1 sent received : List ℕ) → NoFault rec (cartridge p0 p1) → commandCall rec (lent cmd p0 p1 sent received) .answer .refusal ≡ 4 → ⊥
+unfolding applied acted commandTests
 never-four rec cmd p0 p1 sent received h k = go (ended rec cmd p0 p1 sent received)
   where
     go : Ended rec cmd p0 p1 sent received → ⊥
     go (by-number n l f e) =
         let q : n ≡ 4 = sym (ap (λ (r : Result). r .answer .refusal) e) ∙ k in
-        let t : not (wellRecord rec && inserted (decodeOf rec) p0 p1) ≡ true = (refused-4 rec cmd p0 p1 sent received .0 (f ∙ ap (λ (x : ℕ). some (refuse x)) q)) .1 in
+        let t : not (wellRecord rec && inserted (decodeOf rec) p0 p1) ≡ true = (refused-4 rec (lent cmd p0 p1 sent received) .0 (f ∙ ap (λ (x : ℕ). some (refuse x)) q)) .1 in
         never-both h (not-true (wellRecord rec && inserted (decodeOf rec) p0 p1) t)
     go (by-sense z f x b w p l e) = let q : _≡_ {A = ℕ} 0 4 = sym (ap (λ (r : Result). r .answer .refusal) e) ∙ k in omega arith
     go (by-act f w q e) = let q : _≡_ {A = ℕ} 0 4 = sym (ap (λ (r : Result). r .answer .refusal) e) ∙ k in omega arith

@@ -22,13 +22,14 @@ use Rattle.codes.specs.Codes.{codeOf, operationOf}
 use Rattle.codes.specs.Fields.{fixedOf, transferOf}
 use Rattle.transfer.specs.Transfer.{blocksOf, marksOf, putFrom}
 use Rattle.commands.specs.Stop.{Stop, first}
-use Rattle.commands.specs.Kinds.{among}
+use Rattle.commands.specs.Kinds.{erases}
 use Rattle.commands.specs.Act as A
 use Rattle.commands.specs.Act.{Seen, checked, carrying, at, warned, overflowed, offered, goesDown, wrote, writing, marking, act, eventsOf}
-use Rattle.commands.specs.Call.{Result, seen, acted, statusOf, commandTests, commandCall}
+use Rattle.commands.specs.Step.{acted, statusOf}
+use Rattle.commands.specs.Call.{lent, Result, seen, commandTests, commandCall, applied}
+use Rattle.commands.proofs.Classes.{Class, blocks, filemarks, erasing, quiet, classify, no-offers, no-events}
 use Rattle.history.specs.History.{isGood, caused}
 use Rattle.history.specs.Answered.{bytesPut, Answered}
-use Rattle.history.proofs.Turned.{Kind, blocks, filemarks, erases, quiet, kind}
 use Rattle.history.proofs.Faultless.{back, place-small}
 use Rattle.history.proofs.Ended.{Ended, by-number, by-sense, by-act, ended, nothing-caused, fitting-first}
 use Rattle.history.proofs.Acted.{none-down, no-marks, acts-caused}
@@ -124,15 +125,15 @@ marked-all d cmd sent v h = go (eqb (transferOf cmd) 0) refl h
     go true e h = let z = eqb-true (transferOf cmd) 0 e in no-marks d cmd sent v z ∙ unfold marksOf in rw z refl
     go false e h = down-all WriteFilemarks d cmd sent v (wrote-all d v (transferOf cmd) (goesDown WriteFilemarks d cmd sent v) _ h ∙ sym (length-marks (transferOf cmd)))
 
-act-all : (o : Operation) (d : Drive) (cmd sent : List ℕ) (v : Seen) → (act o d cmd sent v) .tells ≡ none → among (Erase ∷ []) o ≡ false → eventsOf o d cmd sent v ≡ putFrom (d .position) (offered o d cmd sent)
+act-all : (o : Operation) (d : Drive) (cmd sent : List ℕ) (v : Seen) → (act o d cmd sent v) .tells ≡ none → erases o ≡ false → eventsOf o d cmd sent v ≡ putFrom (d .position) (offered o d cmd sent)
 unfolding act eventsOf putFrom
-act-all o d cmd sent v h n = go (kind o) h n
+act-all o d cmd sent v h n = go (classify o) h n
   where
-    go : Kind o → (act o d cmd sent v) .tells ≡ none → among (Erase ∷ []) o ≡ false → eventsOf o d cmd sent v ≡ putFrom (d .position) (offered o d cmd sent)
+    go : Class o → (act o d cmd sent v) .tells ≡ none → erases o ≡ false → eventsOf o d cmd sent v ≡ putFrom (d .position) (offered o d cmd sent)
     go (blocks e) h n = rw e (ap (putFrom (d .position)) (written-all d cmd sent v (rw e at h)))
     go (filemarks e) h n = rw e (ap (putFrom (d .position)) (marked-all d cmd sent v (rw e at h)))
-    go (erases e) h n = absurd (let x : true ≡ false = rw e at n in let z : _≡_ {A = ℕ} 0 1 = cc in omega arith)
-    go (quiet m f g) h n = rw (f d cmd sent) (g d cmd sent v)
+    go (erasing e) h n = absurd (let x : true ≡ false = rw e at n in let z : _≡_ {A = ℕ} 0 1 = cc in omega arith)
+    go (quiet m) h n = rw (no-offers o m d cmd sent) (no-events o m d cmd sent v)
 
 good-none : (t : Option Sense) (n : ℕ) → isGood (record { refusal = 0; status = statusOf t; carried = n }) ≡ true → t ≡ none
 unfolding statusOf
@@ -146,11 +147,11 @@ some-none s t a b = let z : _≡_ {A = ℕ} 0 1 = cc in omega arith
 
 module _ (rec cmd p0 p1 sent received : List ℕ) where
   -- stopped
-  when-stopped : (s : Stop) → first (commandTests rec cmd p0 p1 sent received) ≡ some s → (r : Result) → commandCall rec cmd p0 p1 sent received ≡ r → isGood (r .answer) ≡ false → r .answer .carried ≡ 0 → decodeOf (r .rec) .position ≡ decodeOf rec .position
+  when-stopped : (s : Stop) → first (commandTests rec (lent cmd p0 p1 sent received)) ≡ some s → (r : Result) → commandCall rec (lent cmd p0 p1 sent received) ≡ r → isGood (r .answer) ≡ false → r .answer .carried ≡ 0 → decodeOf (r .rec) .position ≡ decodeOf rec .position
       → Answered rec cmd p0 p1 sent received
   when-stopped s f r e g c p =
-      let k : caused rec cmd sent (commandCall rec cmd p0 p1 sent received) ≡ [] = ap (caused rec cmd sent) e ∙ nothing-caused rec cmd sent r g p in
-      let b : isGood (commandCall rec cmd p0 p1 sent received .answer) ≡ false = ap (λ (x : Result). isGood (x .answer)) e ∙ g in
+      let k : caused rec cmd sent (commandCall rec (lent cmd p0 p1 sent received)) ≡ [] = ap (caused rec cmd sent) e ∙ nothing-caused rec cmd sent r g p in
+      let b : isGood (commandCall rec (lent cmd p0 p1 sent received) .answer) ≡ false = ap (λ (x : Result). isGood (x .answer)) e ∙ g in
       record {
         stopped = λ t h. k;
         acted = λ h. absurd (some-none s _ f h);
@@ -159,12 +160,12 @@ module _ (rec cmd p0 p1 sent received : List ℕ) where
       }
 
   -- acted
-  when-acted : (o : Operation) → operationOf (codeOf cmd) ≡ o → first (commandTests rec cmd p0 p1 sent received) ≡ none → (r : Result) → commandCall rec cmd p0 p1 sent received ≡ r
-      → r .answer ≡ record { refusal = 0; status = statusOf ((act o (decodeOf rec) cmd sent (seen o (decodeOf rec) cmd p0 p1)) .tells); carried = (act o (decodeOf rec) cmd sent (seen o (decodeOf rec) cmd p0 p1)) .carried }
-      → caused rec cmd sent r ≡ eventsOf o (decodeOf rec) cmd sent (seen o (decodeOf rec) cmd p0 p1) → Answered rec cmd p0 p1 sent received
+  when-acted : (o : Operation) → operationOf (codeOf cmd) ≡ o → first (commandTests rec (lent cmd p0 p1 sent received)) ≡ none → (r : Result) → commandCall rec (lent cmd p0 p1 sent received) ≡ r
+      → r .answer ≡ record { refusal = 0; status = statusOf ((act o (decodeOf rec) cmd sent (seen o (decodeOf rec) (lent cmd p0 p1 sent received))) .tells); carried = (act o (decodeOf rec) cmd sent (seen o (decodeOf rec) (lent cmd p0 p1 sent received))) .carried }
+      → caused rec cmd sent r ≡ eventsOf o (decodeOf rec) cmd sent (seen o (decodeOf rec) (lent cmd p0 p1 sent received)) → Answered rec cmd p0 p1 sent received
   when-acted o eo f r e a k =
-      let v : Seen = seen o (decodeOf rec) cmd p0 p1 in
-      let x : caused rec cmd sent (commandCall rec cmd p0 p1 sent received) ≡ eventsOf o (decodeOf rec) cmd sent v = ap (caused rec cmd sent) e ∙ k in
+      let v : Seen = seen o (decodeOf rec) (lent cmd p0 p1 sent received) in
+      let x : caused rec cmd sent (commandCall rec (lent cmd p0 p1 sent received)) ≡ eventsOf o (decodeOf rec) cmd sent v = ap (caused rec cmd sent) e ∙ k in
       record {
         stopped = λ s h. absurd (some-none s _ h f);
         acted = λ h. rw eo x;
@@ -173,7 +174,7 @@ module _ (rec cmd p0 p1 sent received : List ℕ) where
       }
 
   pub answered : Answered rec cmd p0 p1 sent received
-  unfolding acted withSense
+  unfolding applied acted withSense
   answered = go (ended rec cmd p0 p1 sent received)
     where
       go : Ended rec cmd p0 p1 sent received → Answered rec cmd p0 p1 sent received

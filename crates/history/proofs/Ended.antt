@@ -22,10 +22,11 @@ use Rattle.codes.specs.Codes.{codeOf, tooShort, operationOf}
 use Rattle.transfer.specs.Transfer.{fitting, putFrom}
 use Rattle.transfer.proofs.Going.{fitting-more, fitting-none}
 use Rattle.commands.specs.Stop.{Stop, refuse, attend, fault, first}
-use Rattle.commands.specs.Kinds.{among}
+use Rattle.commands.specs.Kinds.{erases}
 use Rattle.commands.specs.Act.{unattended, offered}
 use Rattle.commands.specs.Tests.{tests}
-use Rattle.commands.specs.Call.{Result, result, checkAnswer, stopped, seen, inserted, acted, written, commandTests, commandCall}
+use Rattle.commands.specs.Step.{checkAnswer, stopped, acted}
+use Rattle.commands.specs.Call.{lent, Result, result, seen, inserted, written, commandTests, commandCall, applied, looksAt}
 use Rattle.commands.proofs.Exact.{call-stops, call-acts, refused-leaves}
 use Rattle.history.specs.History.{isGood, caused}
 use Rattle.history.proofs.Faultless.{Cart, no-cart, one-part, two-parts, Well, fault-free, sense-whole, attention-whole}
@@ -67,11 +68,11 @@ not-zero (suc n) h = omega arith
 -- ---- how a call ends
 
 pub data Ended (rec cmd p0 p1 sent received : List ℕ) : Type 0 where
-  by-number : (n : ℕ) → 0 < n → first (commandTests rec cmd p0 p1 sent received) ≡ some (refuse n) → commandCall rec cmd p0 p1 sent received ≡ result (refused n) rec p0 p1 received → Ended rec cmd p0 p1 sent received
-  by-sense : (s : Stop) → first (commandTests rec cmd p0 p1 sent received) ≡ some s → (e : Drive) (b : List ℕ) → Well e p0 p1 → e .position ≡ decodeOf rec .position → length b ≡ senseLength
-      → commandCall rec cmd p0 p1 sent received ≡ result checkAnswer (encodeOf (withSense e b)) p0 p1 received → Ended rec cmd p0 p1 sent received
-  by-act : first (commandTests rec cmd p0 p1 sent received) ≡ none → Well (decodeOf rec) p0 p1 → first (tests (operationOf (codeOf cmd)) (decodeOf rec) cmd (seen (operationOf (codeOf cmd)) (decodeOf rec) cmd p0 p1) sent received) ≡ none
-      → commandCall rec cmd p0 p1 sent received ≡ written rec (acted (operationOf (codeOf cmd)) (decodeOf rec) cmd p0 p1 sent received (seen (operationOf (codeOf cmd)) (decodeOf rec) cmd p0 p1))
+  by-number : (n : ℕ) → 0 < n → first (commandTests rec (lent cmd p0 p1 sent received)) ≡ some (refuse n) → commandCall rec (lent cmd p0 p1 sent received) ≡ result (refused n) rec (lent cmd p0 p1 sent received) → Ended rec cmd p0 p1 sent received
+  by-sense : (s : Stop) → first (commandTests rec (lent cmd p0 p1 sent received)) ≡ some s → (e : Drive) (b : List ℕ) → Well e p0 p1 → e .position ≡ decodeOf rec .position → length b ≡ senseLength
+      → commandCall rec (lent cmd p0 p1 sent received) ≡ result checkAnswer (encodeOf (withSense e b)) (lent cmd p0 p1 sent received) → Ended rec cmd p0 p1 sent received
+  by-act : first (commandTests rec (lent cmd p0 p1 sent received)) ≡ none → Well (decodeOf rec) p0 p1 → first (tests (operationOf (codeOf cmd)) (decodeOf rec) cmd (seen (operationOf (codeOf cmd)) (decodeOf rec) (lent cmd p0 p1 sent received)) sent (length received)) ≡ none
+      → commandCall rec (lent cmd p0 p1 sent received) ≡ written rec (applied (acted (operationOf (codeOf cmd)) (decodeOf rec) cmd sent (seen (operationOf (codeOf cmd)) (decodeOf rec) (lent cmd p0 p1 sent received))) (looksAt (operationOf (codeOf cmd)) (decodeOf rec) cmd) (lent cmd p0 p1 sent received))
       → Ended rec cmd p0 p1 sent received
 
 calm-cart : (d : Drive) (p0 p1 : List ℕ) → Cart d p0 p1 → Cart (unattended d) p0 p1
@@ -83,40 +84,40 @@ pub calm-well : (d : Drive) (p0 p1 : List ℕ) → Well d p0 p1 → Well (unatte
 calm-well d p0 p1 w = record { attention = unfold attentionKnown in refl; small = w .small; cart = calm-cart d p0 p1 (w .cart) }
 
 pub ended : (rec cmd p0 p1 sent received : List ℕ) → Ended rec cmd p0 p1 sent received
-ended rec cmd p0 p1 sent received = go (first (commandTests rec cmd p0 p1 sent received)) refl
+ended rec cmd p0 p1 sent received = go (first (commandTests rec (lent cmd p0 p1 sent received))) refl
   where
-    past-four : (s : Option Stop) → first (commandTests rec cmd p0 p1 sent received) ≡ s → (some (refuse 1) ≡ s → ⊥) → (some (refuse 4) ≡ s → ⊥)
-        → (tooShort cmd ≡ false) × (not (wellRecord rec && inserted (decodeOf rec) p0 p1) ≡ false) × (first (tests (operationOf (codeOf cmd)) (decodeOf rec) cmd (seen (operationOf (codeOf cmd)) (decodeOf rec) cmd p0 p1) sent received) ≡ s)
-    past-four s e h k = unfold commandTests in after-two (tooShort cmd) (not (wellRecord rec && inserted (decodeOf rec) p0 p1)) (refuse 1) (refuse 4) (tests (operationOf (codeOf cmd)) (decodeOf rec) cmd (seen (operationOf (codeOf cmd)) (decodeOf rec) cmd p0 p1) sent received) s e h k
+    past-four : (s : Option Stop) → first (commandTests rec (lent cmd p0 p1 sent received)) ≡ s → (some (refuse 1) ≡ s → ⊥) → (some (refuse 4) ≡ s → ⊥)
+        → (tooShort cmd ≡ false) × (not (wellRecord rec && inserted (decodeOf rec) p0 p1) ≡ false) × (first (tests (operationOf (codeOf cmd)) (decodeOf rec) cmd (seen (operationOf (codeOf cmd)) (decodeOf rec) (lent cmd p0 p1 sent received)) sent (length received)) ≡ s)
+    past-four s e h k = unfold commandTests in after-two (tooShort cmd) (not (wellRecord rec && inserted (decodeOf rec) p0 p1)) (refuse 1) (refuse 4) (tests (operationOf (codeOf cmd)) (decodeOf rec) cmd (seen (operationOf (codeOf cmd)) (decodeOf rec) (lent cmd p0 p1 sent received)) sent (length received)) s e h k
 
     well : not (wellRecord rec && inserted (decodeOf rec) p0 p1) ≡ false → Well (decodeOf rec) p0 p1
     well h = fault-free rec p0 p1 (not-false (wellRecord rec && inserted (decodeOf rec) p0 p1) h)
 
-    all : allNumbered (commandTests rec cmd p0 p1 sent received) ≡ true
+    all : allNumbered (commandTests rec (lent cmd p0 p1 sent received)) ≡ true
     all = unfold commandTests tests allNumbered numbered in refl
 
-    go : (s : Option Stop) → first (commandTests rec cmd p0 p1 sent received) ≡ s → Ended rec cmd p0 p1 sent received
+    go : (s : Option Stop) → first (commandTests rec (lent cmd p0 p1 sent received)) ≡ s → Ended rec cmd p0 p1 sent received
     go none e =
         let x = past-four none e (λ q. let z : _≡_ {A = ℕ} 0 1 = cc in omega arith) (λ q. let z : _≡_ {A = ℕ} 0 1 = cc in omega arith) in
-        by-act e (well (x .1)) (x .2) (call-acts rec cmd p0 p1 sent received e)
+        by-act e (well (x .1)) (x .2) (call-acts rec (lent cmd p0 p1 sent received) e)
     go (some (refuse n)) e =
-        let h = not-zero n (first-numbered (commandTests rec cmd p0 p1 sent received) (refuse n) all e) in
-        by-number n h e (call-stops rec cmd p0 p1 sent received (refuse n) e ∙ refused-leaves rec cmd p0 p1 sent received n h)
+        let h = not-zero n (first-numbered (commandTests rec (lent cmd p0 p1 sent received)) (refuse n) all e) in
+        by-number n h e (call-stops rec (lent cmd p0 p1 sent received) (refuse n) e ∙ refused-leaves rec (lent cmd p0 p1 sent received) n h)
     go (some attend) e =
         let x = past-four (some attend) e (λ q. let z : _≡_ {A = ℕ} 0 1 = cc in omega arith) (λ q. let z : _≡_ {A = ℕ} 0 1 = cc in omega arith) in
         by-sense attend e (unattended (decodeOf rec)) (attentionSense (decodeOf rec .attention)) (calm-well (decodeOf rec) p0 p1 (well (x .1))) refl (attention-whole (decodeOf rec .attention))
-        (call-stops rec cmd p0 p1 sent received attend e ∙ unfold stopped in refl)
+        (call-stops rec (lent cmd p0 p1 sent received) attend e ∙ unfold stopped in refl)
     go (some (fault k a q)) e =
         let x = past-four (some (fault k a q)) e (λ q. let z : _≡_ {A = ℕ} 0 1 = cc in omega arith) (λ q. let z : _≡_ {A = ℕ} 0 1 = cc in omega arith) in
         by-sense (fault k a q) e (decodeOf rec) (senseBytes (plainly k a q)) (well (x .1)) refl (sense-whole (plainly k a q))
-        (call-stops rec cmd p0 p1 sent received (fault k a q) e ∙ unfold stopped in refl)
+        (call-stops rec (lent cmd p0 p1 sent received) (fault k a q) e ∙ unfold stopped in refl)
 
 -- ---- what is seen of it
 
 -- neither GOOD nor moved: nothing was put or erased
 pub nothing-caused : (rec cmd sent : List ℕ) (r : Result) → isGood (r .answer) ≡ false → decodeOf (r .rec) .position ≡ decodeOf rec .position → caused rec cmd sent r ≡ []
 unfolding caused putFrom
-nothing-caused rec cmd sent r g e = go (among (Erase ∷ []) (operationOf (codeOf cmd))) refl
+nothing-caused rec cmd sent r g e = go (erases (operationOf (codeOf cmd))) refl
   where
     unerased : cond (isGood (r .answer)) (cut (decodeOf rec .position) ∷ []) [] ≡ []
     unerased = rw g refl
@@ -124,12 +125,12 @@ nothing-caused rec cmd sent r g e = go (among (Erase ∷ []) (operationOf (codeO
     unmoved : putFrom (decodeOf rec .position) (take (decodeOf (r .rec) .position - decodeOf rec .position) (offered (operationOf (codeOf cmd)) (decodeOf rec) cmd sent)) ≡ []
     unmoved = let z : decodeOf (r .rec) .position - decodeOf rec .position ≡ 0 = omega arith in rw z refl
 
-    go : (t : Bool) → among (Erase ∷ []) (operationOf (codeOf cmd)) ≡ t → caused rec cmd sent r ≡ []
+    go : (t : Bool) → erases (operationOf (codeOf cmd)) ≡ t → caused rec cmd sent r ≡ []
     go true q = rw q unerased
     go false q = rw q unmoved
 
 -- nothing offered and no ERASE: nothing was put or erased
-pub nothing-offered : (rec cmd sent : List ℕ) (r : Result) (o : Operation) → operationOf (codeOf cmd) ≡ o → among (Erase ∷ []) o ≡ false → offered o (decodeOf rec) cmd sent ≡ [] → caused rec cmd sent r ≡ []
+pub nothing-offered : (rec cmd sent : List ℕ) (r : Result) (o : Operation) → operationOf (codeOf cmd) ≡ o → erases o ≡ false → offered o (decodeOf rec) cmd sent ≡ [] → caused rec cmd sent r ≡ []
 unfolding caused putFrom
 nothing-offered rec cmd sent r o e h k =
     let z : putFrom (decodeOf rec .position) (take (decodeOf (r .rec) .position - decodeOf rec .position) []) ≡ [] = rw (take-nil {A = Object} (decodeOf (r .rec) .position - decodeOf rec .position)) refl in

@@ -20,8 +20,9 @@ use Rattle.mode.specs.Mode.{listLengthKnown, headerRight, descriptorRight, list
 use Rattle.transfer.specs.Transfer.{blocksOf, marksOf, fitting, putFrom}
 use Rattle.commands.specs.Stop.{first}
 use Rattle.commands.specs.Act.{hidden, readVariable, reading, offered, goesDown, wrote, writing, marking, spaceTells, spacing, selecting, replyOf, act, eventsOf}
-use Rattle.commands.specs.Tests.{bytesAsked, fieldError, taken, needed, tests}
-use Rattle.commands.specs.Call.{looksAt, seenOf, seen, inserted, stopped, statusOf, keptOf, changed, acted, decided, commandTests, commandCall}
+use Rattle.commands.specs.Tests.{bytesAsked, fieldError, taken, replyLength, needed, tests}
+use Rattle.commands.specs.Step.{statusOf, keptOf, stopped, acted, unless, step}
+use Rattle.commands.specs.Call.{looksAt, seenOf, seen, inserted, laidOut, applied, stepOf, called, commandTests, commandCall}
 use Rattle.history.specs.History.{after, caused, events, ends, past}
 use Rattle.history.specs.Demand3.{metOf, readings}
 use Rattle.history.specs.Tiles.{AllHarmless}
@@ -37,7 +38,7 @@ unfolding blank64 uses oneDrive severalDrives AllHarmless callsOf recordUsed aft
     decodeOf encodeOf attentionKnown emptyHanded placed wellFormed wellRecord freshDrive mountedDrive withSense unloaded loadedAnew tooShort inMasks masksHold
     fixedOf siliOf transferOf spaceCodeOf spaceCountOf longOf loadOf pfOf allocationOf listLengthKnown headerRight descriptorRight listRight
     first blocksOf marksOf fitting putFrom offered goesDown wrote writing marking spaceTells spacing selecting replyOf act eventsOf
-    bytesAsked fieldError taken needed tests looksAt seenOf seen inserted stopped statusOf keptOf changed acted decided commandTests commandCall
+    bytesAsked fieldError taken replyLength needed tests statusOf keptOf stopped acted unless step looksAt seenOf seen inserted laidOut applied stepOf called commandTests commandCall
 computed = record {
   one = (refl, refl);
   first = (refl, refl);

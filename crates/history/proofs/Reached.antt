@@ -16,10 +16,12 @@ use Rattle.codes.specs.declared.operation.Operation.the-variants.{Locate, Rewin
 use Rattle.codes.specs.Codes.{codeOf, operationOf, tooShort, inMasks, masksHold}
 use Rattle.codes.specs.Fields.{changesPartition, partitionOf, objectOf}
 use Rattle.commands.specs.Stop.{first}
-use Rattle.commands.specs.Act.{Seen, Deed, good, atPartition, targetOf, locating, replyOf, act, eventsOf}
-use Rattle.commands.specs.Tests.{tests, fieldError, taken, needed}
-use Rattle.commands.specs.Call.{Result, seen, changed, acted, written, statusOf, keptOf, commandTests, commandCall}
+use Rattle.commands.specs.Act.{Seen, Deed, good, atPartition, targetOf, locating, act, eventsOf}
+use Rattle.commands.specs.Tests.{tests, fieldError, taken, replyLength, needed}
+use Rattle.commands.specs.Step.{acted, statusOf, keptOf}
+use Rattle.commands.specs.Call.{lent, Result, seen, written, commandTests, commandCall, laidOut, applied, looksAt}
 use Rattle.commands.proofs.Exact.{call-acts}
+use Rattle.commands.proofs.Classes.{unchanged}
 use Rattle.history.specs.History.{Slot, slot0, slot1, number, cartridge, isGood, slicesLeft}
 use Rattle.history.specs.Demand3.{NoFault, Mounted, locateFirst, rewind, Reached}
 use Rattle.history.proofs.Faultless.{fault-free, back}
@@ -27,28 +29,28 @@ use Rattle.history.proofs.Acted.{acts, unaltered, kept-whole}
 use Rattle.history.proofs.Always.{command-faultless}
 
 module _ (rec p0 p1 sent received : List ℕ) (m : Mounted rec (cartridge p0 p1)) where
-  locate-passes : (s : Slot) → number s < decodeOf rec .partitions → first (commandTests rec (locateFirst s) p0 p1 sent received) ≡ none
-  unfolding first commandTests tests tooShort masksHold inMasks fieldError taken needed replyOf changesPartition partitionOf bytes
+  locate-passes : (s : Slot) → number s < decodeOf rec .partitions → first (commandTests rec (lent (locateFirst s) p0 p1 sent received)) ≡ none
+  unfolding first commandTests tests tooShort masksHold inMasks fieldError taken needed replyLength changesPartition partitionOf bytes
   locate-passes slot0 h =
       rw (m .no-fault, eq-eqb (decodeOf rec .attention) noAttention (m .no-attention), ne-eqb (decodeOf rec .loaded) 0 (λ z. omega (arith, m .loaded)), lt-leb (decodeOf rec .partitions) 0 h, le-ltb (length sent) 0 zero-le, le-ltb (length received) 0 zero-le) refl
   locate-passes slot1 h =
       rw (m .no-fault, eq-eqb (decodeOf rec .attention) noAttention (m .no-attention), ne-eqb (decodeOf rec .loaded) 0 (λ z. omega (arith, m .loaded)), lt-leb (decodeOf rec .partitions) 1 h, le-ltb (length sent) 0 zero-le, le-ltb (length received) 0 zero-le) refl
 
-  rewind-passes : first (commandTests rec rewind p0 p1 sent received) ≡ none
-  unfolding first commandTests tests tooShort masksHold inMasks fieldError taken needed replyOf
+  rewind-passes : first (commandTests rec (lent rewind p0 p1 sent received)) ≡ none
+  unfolding first commandTests tests tooShort masksHold inMasks fieldError taken needed replyLength
   rewind-passes =
       rw (m .no-fault, eq-eqb (decodeOf rec .attention) noAttention (m .no-attention), ne-eqb (decodeOf rec .loaded) 0 (λ z. omega (arith, m .loaded)), le-ltb (length sent) 0 zero-le, le-ltb (length received) 0 zero-le) refl
 
   -- a command that acts, alters nothing and leaves the drive at the beginning of partition k
-  reaches : (s : Slot) (cmd : List ℕ) (o : Operation) → operationOf (codeOf cmd) ≡ o → first (commandTests rec cmd p0 p1 sent received) ≡ none
-      → ((v : Seen) (p : List ℕ) → changed o (decodeOf rec) cmd sent v p ≡ p) → ((v : Seen) → act o (decodeOf rec) cmd sent v ≡ good (atPartition (decodeOf rec) (number s) 0))
-      → Reached s (cartridge p0 p1) (commandCall rec cmd p0 p1 sent received)
-  unfolding acted withSense statusOf
+  reaches : (s : Slot) (cmd : List ℕ) (o : Operation) → operationOf (codeOf cmd) ≡ o → first (commandTests rec (lent cmd p0 p1 sent received)) ≡ none
+      → ((v : Seen) (p : List ℕ) → laidOut (acted o (decodeOf rec) cmd sent v) p ≡ p) → ((v : Seen) → act o (decodeOf rec) cmd sent v ≡ good (atPartition (decodeOf rec) (number s) 0))
+      → Reached s (cartridge p0 p1) (commandCall rec (lent cmd p0 p1 sent received))
+  unfolding applied acted withSense statusOf
   reaches s cmd o eo e c g =
       let w = fault-free rec p0 p1 (m .no-fault) in
-      let v : Seen = seen o (decodeOf rec) cmd p0 p1 in
-      let r : Result = commandCall rec cmd p0 p1 sent received in
-      let q : r ≡ acts rec cmd p0 p1 sent received o eo = call-acts rec cmd p0 p1 sent received e ∙ ap (λ (x : Operation). written rec (acted x (decodeOf rec) cmd p0 p1 sent received (seen x (decodeOf rec) cmd p0 p1))) eo in
+      let v : Seen = seen o (decodeOf rec) (lent cmd p0 p1 sent received) in
+      let r : Result = commandCall rec (lent cmd p0 p1 sent received) in
+      let q : r ≡ acts rec cmd p0 p1 sent received o eo = call-acts rec (lent cmd p0 p1 sent received) e ∙ ap (λ (x : Operation). written rec (applied (acted x (decodeOf rec) cmd sent (seen x (decodeOf rec) (lent cmd p0 p1 sent received))) (looksAt x (decodeOf rec) cmd) (lent cmd p0 p1 sent received))) eo in
       let same : slicesLeft r ≡ cartridge p0 p1 = ap slicesLeft q ∙ unaltered rec cmd p0 p1 sent received o eo c in
       let d : decodeOf (r .rec) ≡ withSense (atPartition (decodeOf rec) (number s) 0) (keptOf (act o (decodeOf rec) cmd sent v .tells))
       = ap (λ (x : Result). decodeOf (x .rec)) q
@@ -70,10 +72,10 @@ module _ (rec p0 p1 sent received : List ℕ) (m : Mounted rec (cartridge p0 p1)
   located slot0 v = rw (le-leb 0 (length (v .objects)) zero-le) refl
   located slot1 v = rw (le-leb 0 (length (v .objects)) zero-le) refl
 
-  pub locate-reaches : (s : Slot) → number s < decodeOf rec .partitions → Reached s (cartridge p0 p1) (commandCall rec (locateFirst s) p0 p1 sent received)
-  unfolding changed eventsOf occurs act
-  locate-reaches s h = reaches s (locateFirst s) Locate refl (locate-passes s h) (λ v p. refl) (λ v. located s v)
+  pub locate-reaches : (s : Slot) → number s < decodeOf rec .partitions → Reached s (cartridge p0 p1) (commandCall rec (lent (locateFirst s) p0 p1 sent received))
+  unfolding act
+  locate-reaches s h = reaches s (locateFirst s) Locate refl (locate-passes s h) (unchanged Locate refl (decodeOf rec) (locateFirst s) sent) (λ v. located s v)
 
-  pub rewind-reaches : (s : Slot) → decodeOf rec .current ≡ number s → Reached s (cartridge p0 p1) (commandCall rec rewind p0 p1 sent received)
-  unfolding changed eventsOf occurs act
-  rewind-reaches s h = reaches s rewind Rewind refl rewind-passes (λ v p. refl) (λ v. ap (λ (k : ℕ). good (atPartition (decodeOf rec) k 0)) h)
+  pub rewind-reaches : (s : Slot) → decodeOf rec .current ≡ number s → Reached s (cartridge p0 p1) (commandCall rec (lent rewind p0 p1 sent received))
+  unfolding act
+  rewind-reaches s h = reaches s rewind Rewind refl rewind-passes (unchanged Rewind refl (decodeOf rec) rewind sent) (λ v. ap (λ (k : ℕ). good (atPartition (decodeOf rec) k 0)) h)

@@ -28,22 +28,24 @@ use Rattle.codes.specs.declared.operation.Operation.the-variants.{Read}
 use Rattle.codes.specs.Codes.{tooShort, inMasks, masksHold}
 use Rattle.codes.specs.Fields.{fixedOf, siliOf, transferOf}
 use Rattle.commands.specs.Stop.{first}
-use Rattle.commands.specs.Act.{Deed, good, checked, giving, at, hidden, oddMet, filemarkMet, endMet, readVariable, reading, act, eventsOf}
+use Rattle.commands.specs.Act.{Seen, Deed, good, checked, giving, at, hidden, oddMet, filemarkMet, endMet, readVariable, reading, act, eventsOf}
 use Rattle.commands.specs.Tests.{tests, bytesAsked, fieldError, taken, needed}
-use Rattle.commands.specs.Call.{Result, result, partition, looksAt, seenOf, changed, acted, statusOf, keptOf, commandTests, commandCall}
+use Rattle.commands.specs.Step.{acted, statusOf, keptOf}
+use Rattle.commands.specs.Call.{Lent, lent, Result, result, partition, looksAt, seenOf, commandTests, commandCall, applied}
 use Rattle.commands.proofs.Exact.{call-acts}
 use Rattle.image.specs.Changes.{occurs}
+use Rattle.commands.proofs.Classes.{unchanged}
 use Rattle.history.specs.History.{Slot, slot0, slot1, number, Cartridge, cartridge, part, slicesLeft}
 use Rattle.history.specs.Demand3.{NoFault, Mounted, AtBeginning, readLargest, Reading, readOnce, Met, object, endOfData, nothingKnown, says, metOf, readings, readThrough, meetings}
 use Rattle.history.proofs.Faultless.{Well, fault-free, back, place-small, sense-whole}
-use Rattle.history.proofs.Acted.{Inside, inside, seen-loaded, kept-whole}
+use Rattle.history.proofs.Acted.{Inside, inside, seen-there, kept-whole}
 use Rattle.history.proofs.Lists.{get-lt, get-getD, drop-none, drop-some}
 use Rattle.history.proofs.Always.{command-faultless}
 
 -- ---- no test stops such a read
 
 pub lets : (b : Bool) (rec p0 p1 sent received : List ℕ) → NoFault rec (cartridge p0 p1) → decodeOf rec .loaded ≡ 1 → decodeOf rec .attention ≡ noAttention → largestBlock ≤ length received
-    → first (commandTests rec (readLargest b) p0 p1 sent received) ≡ none
+    → first (commandTests rec (lent (readLargest b) p0 p1 sent received)) ≡ none
 unfolding first commandTests tests tooShort masksHold inMasks fieldError fixedOf siliOf taken needed bytesAsked transferOf be bytes
 lets true rec p0 p1 sent received f l a r =
     rw (f, eq-eqb (decodeOf rec .attention) noAttention a, ne-eqb (decodeOf rec .loaded) 0 (λ z. omega arith), le-ltb (length sent) 0 zero-le, le-ltb (length received) largestBlock r) refl
@@ -53,8 +55,10 @@ lets false rec p0 p1 sent received f l a r =
 -- ---- what the read is: of the object at the position
 
 -- what a deed leaves that alters no partition
-abbrev leaves : Deed → List ℕ → List ℕ → List ℕ → Result
-leaves e p0 p1 received = result (record { refusal = 0; status = statusOf (e .tells); carried = e .carried }) (encodeOf (withSense (e .drive) (keptOf (e .tells)))) p0 p1 (over received 0 (e .received))
+abbrev leaves : Deed → Lent → Result
+leaves e x =
+    result (record { refusal = 0; status = statusOf (e .tells); carried = e .carried }) (encodeOf (withSense (e .drive) (keptOf (e .tells))))
+    (lent (x .cmd) (x .part0) (x .part1) (x .sent) (over (x .received) 0 (e .received)))
 
 acts-so : (b : Bool) (d : Drive) (sent p : List ℕ) → act Read d (readLargest b) sent (seenOf p) ≡ readVariable d (readLargest b) (seenOf p) (getElem? (objects p) (d .position))
 unfolding act reading fixedOf transferOf be bytes seenOf
@@ -66,11 +70,13 @@ same-way true p = refl
 same-way false p = refl
 
 reads-so : (b : Bool) (rec p0 p1 sent received : List ℕ) → NoFault rec (cartridge p0 p1) → decodeOf rec .loaded ≡ 1 → decodeOf rec .attention ≡ noAttention → largestBlock ≤ length received
-    → commandCall rec (readLargest b) p0 p1 sent received ≡ leaves (readVariable (decodeOf rec) (readLargest b) (seenOf (partition (decodeOf rec .current) p0 p1)) (getElem? (objects (partition (decodeOf rec .current) p0 p1)) (decodeOf rec .position))) p0 p1 received
-unfolding acted changed eventsOf occurs looksAt
+    → commandCall rec (lent (readLargest b) p0 p1 sent received) ≡ leaves (readVariable (decodeOf rec) (readLargest b) (seenOf (partition (decodeOf rec .current) p0 p1)) (getElem? (objects (partition (decodeOf rec .current) p0 p1)) (decodeOf rec .position))) (lent (readLargest b) p0 p1 sent received)
+unfolding applied acted looksAt
 reads-so b rec p0 p1 sent received f l a r =
-    call-acts rec (readLargest b) p0 p1 sent received (lets b rec p0 p1 sent received f l a r)
-    ∙ rw (seen-loaded Read (decodeOf rec) (readLargest b) p0 p1 l, acts-so b (decodeOf rec) sent (partition (decodeOf rec .current) p0 p1), same-way (eqb (decodeOf rec .current) 1) p0, same-way (eqb (decodeOf rec .current) 1) p1) refl
+    let w = inside (decodeOf rec) p0 p1 (fault-free rec p0 p1 f .cart) (λ z. omega arith) in
+    let v : Seen = seenOf (partition (decodeOf rec .current) p0 p1) in
+    call-acts rec (lent (readLargest b) p0 p1 sent received) (lets b rec p0 p1 sent received f l a r)
+    ∙ rw (seen-there Read (decodeOf rec) (lent (readLargest b) p0 p1 sent received) (w .there), unchanged Read refl (decodeOf rec) (readLargest b) sent v p0, unchanged Read refl (decodeOf rec) (readLargest b) sent v p1, acts-so b (decodeOf rec) sent (partition (decodeOf rec .current) p0 p1), same-way (eqb (decodeOf rec .current) 1) p0, same-way (eqb (decodeOf rec .current) 1) p1) refl
 
 -- ---- what its answer, sense and buffer tell
 
@@ -83,23 +89,23 @@ told-held counts f e i key asc ascq z h = record { key-small = h; information-sm
     go false = omega arith
 
 -- with CHECK CONDITION and a sense
-met-told : (d : Drive) (s : Sense) (n : ℕ) (p0 p1 received : List ℕ) → d .position < 2 ^ 32 → d .«block_length» ≤ largestBlock → Held s
-    → metOf (result (record { refusal = 0; status = checkCondition; carried = n }) (encodeOf (withSense d (senseBytes s))) p0 p1 received)
+met-told : (d : Drive) (s : Sense) (n : ℕ) (x : Lent) → d .position < 2 ^ 32 → d .«block_length» ≤ largestBlock → Held s
+    → metOf (result (record { refusal = 0; status = checkCondition; carried = n }) (encodeOf (withSense d (senseBytes s))) x)
     ≡ cond (says s blankCheck 0x00 0x05) endOfData
     (cond (says s noSense 0x00 0x01 && s .filemark) (object filemark)
-    (cond (says s noSense 0x00 0x00 && s .ili) (object (block (take n received))) nothingKnown))
+    (cond (says s noSense 0x00 0x00 && s .ili) (object (block (take n (x .received)))) nothingKnown))
 unfolding metOf
-met-told d s n p0 p1 received h l k =
-    let e : partsOf (decodeOf (encodeOf (withSense d (senseBytes s))) .sense) ≡ s = ap (λ (x : Drive). partsOf (x .sense)) (back d (senseBytes s) h l (sense-whole s)) ∙ (unfold withSense in parts-made s k) in
+met-told d s n x h l k =
+    let e : partsOf (decodeOf (encodeOf (withSense d (senseBytes s))) .sense) ≡ s = ap (λ (y : Drive). partsOf (y .sense)) (back d (senseBytes s) h l (sense-whole s)) ∙ (unfold withSense in parts-made s k) in
     rw e refl
 
 carried-back : (bs received : List ℕ) → take (length bs) (over received 0 bs) ≡ bs
 unfolding over
 carried-back bs received = take-append-seam bs (drop (0 + length bs) received)
 
-met-good : (d : Drive) (b bs p0 p1 received : List ℕ) → metOf (result (record { refusal = 0; status = 0; carried = length bs }) b p0 p1 (over received 0 bs)) ≡ object (block bs)
+met-good : (b bs cmd p0 p1 sent received : List ℕ) → metOf (result (record { refusal = 0; status = 0; carried = length bs }) b (lent cmd p0 p1 sent (over received 0 bs))) ≡ object (block bs)
 unfolding metOf
-met-good d b bs p0 p1 received = ap (λ (x : List ℕ). object (block x)) (carried-back bs received)
+met-good b bs cmd p0 p1 sent received = ap (λ (x : List ℕ). object (block x)) (carried-back bs received)
 
 -- ---- blocks are not longer than the largest
 
@@ -138,7 +144,7 @@ record Step (rec : List ℕ) (c : Cartridge) (r : Result) : Type 0 where
   calm : decodeOf (r .rec) .attention ≡ noAttention
   same : slicesLeft r ≡ c
 
-module _ (b : Bool) (rec p0 p1 received : List ℕ) (m : Mounted rec (cartridge p0 p1)) where
+module _ (b : Bool) (rec p0 p1 sent received : List ℕ) (m : Mounted rec (cartridge p0 p1)) where
   abbrev d : Drive
   d = decodeOf rec
 
@@ -152,31 +158,31 @@ module _ (b : Bool) (rec p0 p1 received : List ℕ) (m : Mounted rec (cartridge 
   i = inside (decodeOf rec) p0 p1 (w .cart) (λ z. omega (arith, m .loaded))
 
   -- a deed that leaves the drive at n, meets x, and has xs ahead of n
-  stepped : (e : Deed) (n : ℕ) → e .drive ≡ at d n → n ≤ count p → ((k : ℕ) → metOf (leaves e p0 p1 received) ∷ meetings k (drop n (objects p)) ≡ meetings (suc k) (drop (d .position) (objects p))) → Step rec (cartridge p0 p1) (leaves e p0 p1 received)
+  stepped : (e : Deed) (n : ℕ) → e .drive ≡ at d n → n ≤ count p → ((k : ℕ) → metOf (leaves e (lent (readLargest b) p0 p1 sent received)) ∷ meetings k (drop n (objects p)) ≡ meetings (suc k) (drop (d .position) (objects p))) → Step rec (cartridge p0 p1) (leaves e (lent (readLargest b) p0 p1 sent received))
   unfolding withSense
   stepped e n h l f =
       let small : n < 2 ^ 32 = omega (arith, i .right .dir-is, i .right .most) in
       let q : decodeOf (encodeOf (withSense (e .drive) (keptOf (e .tells)))) ≡ withSense (at d n) (keptOf (e .tells))
       = ap (λ (x : Drive). decodeOf (encodeOf (withSense x (keptOf (e .tells))))) h ∙ back (at d n) (keptOf (e .tells)) small (w .small) (kept-whole (e .tells)) in
       record {
-        next = λ k. ap (λ (x : Drive). metOf (leaves e p0 p1 received) ∷ meetings k (drop (x .position) (objects (partition (x .current) p0 p1)))) q ∙ f k;
+        next = λ k. ap (λ (x : Drive). metOf (leaves e (lent (readLargest b) p0 p1 sent received)) ∷ meetings k (drop (x .position) (objects (partition (x .current) p0 p1)))) q ∙ f k;
         loaded = ap (λ (x : Drive). x .loaded) q ∙ m .loaded;
         calm = ap (λ (x : Drive). x .attention) q ∙ m .no-attention;
         same = refl;
       }
 
-  one-read : (x : Option Object) → getElem? (objects p) (d .position) ≡ x → Step rec (cartridge p0 p1) (leaves (readVariable d (readLargest b) (seenOf p) x) p0 p1 received)
+  one-read : (x : Option Object) → getElem? (objects p) (d .position) ≡ x → Step rec (cartridge p0 p1) (leaves (readVariable d (readLargest b) (seenOf p) x) (lent (readLargest b) p0 p1 sent received))
   unfolding readVariable meetings statusOf keptOf told
   one-read none e =
       let z = drop-none (objects p) (d .position) e in
       stepped (checked d (endMet (seenOf p) (pos (transferOf (readLargest b))))) (d .position) refl (i .place) (λ k. rw z
-      (ap (λ (y : Met). y ∷ meetings k []) (met-told d (endMet (seenOf p) (pos (transferOf (readLargest b)))) 0 p0 p1 (over received 0 []) (place-small d p0 p1 (w .cart)) (w .small) (told-held true false _ false blankCheck 0x00 0x05 (pos (transferOf (readLargest b))) (omega arith)))))
+      (ap (λ (y : Met). y ∷ meetings k []) (met-told d (endMet (seenOf p) (pos (transferOf (readLargest b)))) 0 (lent (readLargest b) p0 p1 sent (over received 0 [])) (place-small d p0 p1 (w .cart)) (w .small) (told-held true false _ false blankCheck 0x00 0x05 (pos (transferOf (readLargest b))) (omega arith)))))
   one-read (some filemark) e =
       let g = get-lt (objects p) (d .position) filemark e in
       let l = length-objects p in
       let z = drop-some (objects p) (d .position) filemark e in
       stepped (checked (at d (suc (d .position))) (filemarkMet (pos (transferOf (readLargest b))))) (suc (d .position)) refl (omega arith) (λ k. rw z
-      (ap (λ (y : Met). y ∷ meetings k (drop (suc (d .position)) (objects p))) (met-told (at d (suc (d .position))) (filemarkMet (pos (transferOf (readLargest b)))) 0 p0 p1 (over received 0 []) (omega (arith, i .right .dir-is, i .right .most)) (w .small) (told-held true true false false noSense 0x00 0x01 (pos (transferOf (readLargest b))) (omega arith)))))
+      (ap (λ (y : Met). y ∷ meetings k (drop (suc (d .position)) (objects p))) (met-told (at d (suc (d .position))) (filemarkMet (pos (transferOf (readLargest b)))) 0 (lent (readLargest b) p0 p1 sent (over received 0 [])) (omega (arith, i .right .dir-is, i .right .most)) (w .small) (told-held true true false false noSense 0x00 0x01 (pos (transferOf (readLargest b))) (omega arith)))))
   one-read (some (block bs)) e =
       let s : take (transferOf (readLargest b)) bs ≡ bs = take-all (transferOf (readLargest b)) bs (rw (asked b) (block-small p (i .right) (d .position) bs e)) in
       rw s (go (eqb (length bs) (transferOf (readLargest b)) || hidden d (readLargest b) (length bs)))
@@ -187,12 +193,12 @@ module _ (b : Bool) (rec p0 p1 received : List ℕ) (m : Mounted rec (cartridge 
       odd : Sense
       odd = oddMet (subℕ (transferOf (readLargest b)) (length bs))
 
-      go : (t : Bool) → Step rec (cartridge p0 p1) (leaves (giving bs (cond t (good (at d (suc (d .position)))) (checked (at d (suc (d .position))) (oddMet (subℕ (transferOf (readLargest b)) (length bs)))))) p0 p1 received)
+      go : (t : Bool) → Step rec (cartridge p0 p1) (leaves (giving bs (cond t (good (at d (suc (d .position)))) (checked (at d (suc (d .position))) (oddMet (subℕ (transferOf (readLargest b)) (length bs)))))) (lent (readLargest b) p0 p1 sent received))
       go true = stepped (giving bs (good (at d (suc (d .position))))) (suc (d .position)) refl g (λ k. rw (drop-some (objects p) (d .position) (block bs) e)
-          (ap (λ (y : Met). y ∷ meetings k (drop (suc (d .position)) (objects p))) (met-good d _ bs p0 p1 received)))
+          (ap (λ (y : Met). y ∷ meetings k (drop (suc (d .position)) (objects p))) (met-good _ bs (readLargest b) p0 p1 sent received)))
       go false = stepped (giving bs (checked (at d (suc (d .position))) (oddMet (subℕ (transferOf (readLargest b)) (length bs))))) (suc (d .position)) refl g (λ k. rw (drop-some (objects p) (d .position) (block bs) e)
           (ap (λ (y : Met). y ∷ meetings k (drop (suc (d .position)) (objects p)))
-          (met-told (at d (suc (d .position))) (oddMet (subℕ (transferOf (readLargest b)) (length bs))) (length bs) p0 p1 (over received 0 bs) (omega (arith, g, i .right .dir-is, i .right .most)) (w .small)
+          (met-told (at d (suc (d .position))) (oddMet (subℕ (transferOf (readLargest b)) (length bs))) (length bs) (lent (readLargest b) p0 p1 sent (over received 0 bs)) (omega (arith, g, i .right .dir-is, i .right .most)) (w .small)
           (told-held true false false true noSense 0x00 0x00 (subℕ (transferOf (readLargest b)) (length bs)) (omega arith)) ∙ ap (λ (x : List ℕ). object (block x)) (carried-back bs received))))
 
 -- ---- one read after another
@@ -200,7 +206,7 @@ module _ (b : Bool) (rec p0 p1 received : List ℕ) (m : Mounted rec (cartridge 
 step : (x : Reading) (rec : List ℕ) (c : Cartridge) → Mounted rec c → Step rec c (readOnce x rec c)
 step x rec c m =
     subst (Step rec c) (sym (reads-so (x .sili) rec (c .part0) (c .part1) (x .sent) (x .received) (m .no-fault) (m .loaded) (m .no-attention) (x .room)))
-    (one-read (x .sili) rec (c .part0) (c .part1) (x .received) m (getElem? (objects (partition (decodeOf rec .current) (c .part0) (c .part1))) (decodeOf rec .position)) refl)
+    (one-read (x .sili) rec (c .part0) (c .part1) (x .sent) (x .received) m (getElem? (objects (partition (decodeOf rec .current) (c .part0) (c .part1))) (decodeOf rec .position)) refl)
 
 -- mounted still
 stays : (x : Reading) (rec : List ℕ) (c : Cartridge) → Mounted rec c → Mounted (readOnce x rec c .rec) (slicesLeft (readOnce x rec c))

@@ -28,14 +28,15 @@ use Rattle.codes.specs.Codes.{codeOf, operationOf}
 use Rattle.codes.specs.Fields.{fixedOf, transferOf}
 use Rattle.transfer.specs.Transfer.{blocksOf, marksOf, putFrom}
 use Rattle.commands.specs.Stop.{Stop, first}
-use Rattle.commands.specs.Kinds.{among, writes}
+use Rattle.commands.specs.Kinds.{erases, writes}
 use Rattle.commands.specs.Act.{offered}
-use Rattle.commands.specs.Call.{Result, acted, commandTests, commandCall}
+use Rattle.commands.specs.Step.{acted}
+use Rattle.commands.specs.Call.{lent, Result, commandTests, commandCall, applied}
+use Rattle.commands.proofs.Classes.{no-erase, no-offers}
 use Rattle.history.specs.History.{Slot, slot0, slot1, number, Cartridge, part, MadeBlank, Lending, slices, isLentAs, Call, command, mount, protection, commanded, after, caused, events, ends, past}
 use Rattle.history.specs.Demand3.{Mounted, AtBeginning, Reading, Met, readings, meetings}
 use Rattle.history.specs.Tiles.{Kept, tileLength, tileOf, TilePut, MarkPut, TileKept, MarkKept, Harmless, AllHarmless, Agree}
 use Rattle.history.proofs.Lists.{get-lt, get-getD}
-use Rattle.history.proofs.Turned.{Kind, blocks, filemarks, erases, quiet, kind}
 use Rattle.history.proofs.Ended.{Ended, by-number, by-sense, by-act, ended, nothing-offered}
 use Rattle.history.proofs.Answered.{puts-bytes, length-blocks, length-marks, answered}
 use Rattle.history.proofs.Told.{told, still-sound, none-either, past-append}
@@ -193,38 +194,26 @@ mark-kept s c m before l rec cmd sent received i since t u =
 -- ---- what loses nothing
 
 quiet-causes : (rec cmd sent : List ℕ) (r : Result) → writes (operationOf (codeOf cmd)) ≡ false → caused rec cmd sent r ≡ []
-quiet-causes rec cmd sent r h = go (kind (operationOf (codeOf cmd))) h
+quiet-causes rec cmd sent r h = nothing-offered rec cmd sent r (operationOf (codeOf cmd)) refl (no-erase (operationOf (codeOf cmd)) h) (no-offers (operationOf (codeOf cmd)) h (decodeOf rec) cmd sent)
+
+stopped-causes : (rec cmd p0 p1 sent received : List ℕ) → (first (commandTests rec (lent cmd p0 p1 sent received)) ≡ none → ⊥) → caused rec cmd sent (commandCall rec (lent cmd p0 p1 sent received)) ≡ []
+stopped-causes rec cmd p0 p1 sent received h = go (first (commandTests rec (lent cmd p0 p1 sent received))) refl
   where
-    o : Operation
-    o = operationOf (codeOf cmd)
-
-    never : true ≡ false → caused rec cmd sent r ≡ []
-    never x = absurd (let z : _≡_ {A = ℕ} 0 1 = cc in omega arith)
-
-    go : Kind (operationOf (codeOf cmd)) → writes (operationOf (codeOf cmd)) ≡ false → caused rec cmd sent r ≡ []
-    go (blocks e) h = never (rw e at h)
-    go (filemarks e) h = never (rw e at h)
-    go (erases e) h = never (rw e at h)
-    go (quiet n f g) h = nothing-offered rec cmd sent r (operationOf (codeOf cmd)) refl n (f (decodeOf rec) cmd sent)
-
-stopped-causes : (rec cmd p0 p1 sent received : List ℕ) → (first (commandTests rec cmd p0 p1 sent received) ≡ none → ⊥) → caused rec cmd sent (commandCall rec cmd p0 p1 sent received) ≡ []
-stopped-causes rec cmd p0 p1 sent received h = go (first (commandTests rec cmd p0 p1 sent received)) refl
-  where
-    go : (t : Option Stop) → first (commandTests rec cmd p0 p1 sent received) ≡ t → caused rec cmd sent (commandCall rec cmd p0 p1 sent received) ≡ []
+    go : (t : Option Stop) → first (commandTests rec (lent cmd p0 p1 sent received)) ≡ t → caused rec cmd sent (commandCall rec (lent cmd p0 p1 sent received)) ≡ []
     go none e = absurd (h e)
     go (some s) e = answered rec cmd p0 p1 sent received .stopped s e
 
-no-events : (s : Slot) (x : Call) (c : Cartridge) → Harmless x c → events s x c ≡ []
+no-changes : (s : Slot) (x : Call) (c : Cartridge) → Harmless x c → events s x c ≡ []
 unfolding events
-no-events s (mount l rec) c h = refl
-no-events s (protection t on) c h = refl
-no-events s (command l rec cmd sent received) c (inl h) = none-either (isLentAs s l (decodeOf rec .current)) _ (quiet-causes rec cmd sent (commanded l c rec cmd sent received) h)
-no-events s (command l rec cmd sent received) c (inr h) = none-either (isLentAs s l (decodeOf rec .current)) _ (stopped-causes rec cmd (slices l c .part0) (slices l c .part1) sent received h)
+no-changes s (mount l rec) c h = refl
+no-changes s (protection t on) c h = refl
+no-changes s (command l rec cmd sent received) c (inl h) = none-either (isLentAs s l (decodeOf rec .current)) _ (quiet-causes rec cmd sent (commanded l c rec cmd sent received) h)
+no-changes s (command l rec cmd sent received) c (inr h) = none-either (isLentAs s l (decodeOf rec .current)) _ (stopped-causes rec cmd (slices l c .part0) (slices l c .part1) sent received h)
 
 no-past : (s : Slot) (xs : List Call) (c : Cartridge) → AllHarmless xs c → past s xs c ≡ []
 unfolding past AllHarmless
 no-past s [] c h = refl
-no-past s (x ∷ xs) c h = rw (no-events s x c (h .0)) (no-past s xs (after x c) (h .1))
+no-past s (x ∷ xs) c h = rw (no-changes s x c (h .0)) (no-past s xs (after x c) (h .1))
 
 agreed : (s : Slot) (c d : Cartridge) → objects (part s c) ≡ objects (part s d) → Agree s c d
 agreed s c d h = record {
@@ -239,7 +228,7 @@ nothing-lost s c m calls since h =
 
 -- a call that is refused by number is stopped
 pub refused-harmless : (l : Lending) (rec cmd sent received : List ℕ) (c : Cartridge) → (commanded l c rec cmd sent received .answer .refusal ≡ 0 → ⊥) → Harmless (command l rec cmd sent received) c
-unfolding acted
+unfolding applied acted
 refused-harmless l rec cmd sent received c h = go (ended rec cmd (slices l c .part0) (slices l c .part1) sent received)
   where
     go : Ended rec cmd (slices l c .part0) (slices l c .part1) sent received → Harmless (command l rec cmd sent received) c

@@ -22,7 +22,7 @@ use Rattle.image.proofs.Facts.{Sound, sound-parts, right-parts}
 use Rattle.image.proofs.Trailer.{blanks, protects}
 use Rattle.record.specs.Record.{decodeOf, withSense}
 use Rattle.codes.specs.Codes.{codeOf, operationOf}
-use Rattle.commands.specs.Call.{Result, result, commandCall}
+use Rattle.commands.specs.Call.{lent, Result, result, commandCall}
 use Rattle.history.specs.History.{Slot, slot0, slot1, number, Cartridge, cartridge, part, MadeBlank, Lending, together, alone, Call, command, mount, protection, slicesLeft, after, caused, events, ends, past}
 use Rattle.history.proofs.Faultless.{back, place-small}
 use Rattle.history.proofs.Turned.{Turned, still}
@@ -42,12 +42,12 @@ none-either false es e = refl
 unchanged : (s : Slot) (rec cmd p0 p1 sent : List ℕ) (r : Result) → caused rec cmd sent r ≡ [] → slicesLeft r ≡ cartridge p0 p1 → Sound (part s (cartridge p0 p1)) → Shown s rec cmd p0 p1 sent r
 unchanged s rec cmd p0 p1 sent r e h k = rw (none-either (eqb (decodeOf rec .current) (number s)) (caused rec cmd sent r) e, ap (part s) h) (still (part s (cartridge p0 p1)) k)
 
-pub shown : (s : Slot) (rec cmd p0 p1 sent received : List ℕ) → Sound (part s (cartridge p0 p1)) → Shown s rec cmd p0 p1 sent (commandCall rec cmd p0 p1 sent received)
+pub shown : (s : Slot) (rec cmd p0 p1 sent received : List ℕ) → Sound (part s (cartridge p0 p1)) → Shown s rec cmd p0 p1 sent (commandCall rec (lent cmd p0 p1 sent received))
 unfolding withSense
 shown s rec cmd p0 p1 sent received k = go (ended rec cmd p0 p1 sent received)
   where
-    go : Ended rec cmd p0 p1 sent received → Shown s rec cmd p0 p1 sent (commandCall rec cmd p0 p1 sent received)
-    go (by-number n h f e) = subst (Shown s rec cmd p0 p1 sent) (sym e) (unchanged s rec cmd p0 p1 sent (result (refused n) rec p0 p1 received) (nothing-caused rec cmd sent (result (refused n) rec p0 p1 received) (rw (ne-eqb n 0 (λ z. omega arith)) refl) refl) refl k)
+    go : Ended rec cmd p0 p1 sent received → Shown s rec cmd p0 p1 sent (commandCall rec (lent cmd p0 p1 sent received))
+    go (by-number n h f e) = subst (Shown s rec cmd p0 p1 sent) (sym e) (unchanged s rec cmd p0 p1 sent (result (refused n) rec (lent cmd p0 p1 sent received)) (nothing-caused rec cmd sent (result (refused n) rec (lent cmd p0 p1 sent received)) (rw (ne-eqb n 0 (λ z. omega arith)) refl) refl) refl k)
     go (by-sense z f x b w p l e) =
         subst (Shown s rec cmd p0 p1 sent) (sym e)
         (unchanged s rec cmd p0 p1 sent _ (nothing-caused rec cmd sent _ refl (ap (λ y. y .position) (back x b (place-small x p0 p1 (w .cart)) (w .small) l) ∙ p)) refl k)

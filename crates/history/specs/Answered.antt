@@ -10,13 +10,13 @@ use lib.ListN.{length}
 use Rattle.objects.specs.Object.{dataOf}
 use Rattle.objects.specs.Events.{Event, put, cut}
 use Rattle.record.specs.Record.{decodeOf}
-use Rattle.codes.specs.declared.operation.Operation.the-variants.{Write, Erase}
+use Rattle.codes.specs.declared.operation.Operation.the-variants.{Write}
 use Rattle.codes.specs.Codes.{codeOf, operationOf}
 use Rattle.transfer.specs.Transfer.{putFrom}
 use Rattle.commands.specs.Stop.{Stop, first}
-use Rattle.commands.specs.Kinds.{among}
+use Rattle.commands.specs.Kinds.{erases}
 use Rattle.commands.specs.Act.{offered, eventsOf}
-use Rattle.commands.specs.Call.{seen, commandTests, commandCall}
+use Rattle.commands.specs.Call.{lent, seen, commandTests, commandCall}
 use Rattle.history.specs.History.{isGood, caused}
 
 -- the bytes of the objects put
@@ -27,11 +27,11 @@ bytesPut (cut k ∷ es) = bytesPut es
 
 pub record Answered (rec cmd p0 p1 sent received : List ℕ) : Type 0 where
   -- refused or stopped it put and erased nothing; else what demand 2 defines
-  pub stopped : (s : Stop) → first (commandTests rec cmd p0 p1 sent received) ≡ some s → caused rec cmd sent (commandCall rec cmd p0 p1 sent received) ≡ []
-  pub acted : first (commandTests rec cmd p0 p1 sent received) ≡ none
-      → caused rec cmd sent (commandCall rec cmd p0 p1 sent received) ≡ eventsOf (operationOf (codeOf cmd)) (decodeOf rec) cmd sent (seen (operationOf (codeOf cmd)) (decodeOf rec) cmd p0 p1)
+  pub stopped : (s : Stop) → first (commandTests rec (lent cmd p0 p1 sent received)) ≡ some s → caused rec cmd sent (commandCall rec (lent cmd p0 p1 sent received)) ≡ []
+  pub acted : first (commandTests rec (lent cmd p0 p1 sent received)) ≡ none
+      → caused rec cmd sent (commandCall rec (lent cmd p0 p1 sent received)) ≡ eventsOf (operationOf (codeOf cmd)) (decodeOf rec) cmd sent (seen (operationOf (codeOf cmd)) (decodeOf rec) (lent cmd p0 p1 sent received))
   -- the bytes carried by WRITE are those of the objects that it put
-  pub carried : operationOf (codeOf cmd) ≡ Write → commandCall rec cmd p0 p1 sent received .answer .carried ≡ bytesPut (caused rec cmd sent (commandCall rec cmd p0 p1 sent received))
+  pub carried : operationOf (codeOf cmd) ≡ Write → commandCall rec (lent cmd p0 p1 sent received) .answer .carried ≡ bytesPut (caused rec cmd sent (commandCall rec (lent cmd p0 p1 sent received)))
   -- GOOD: it put all that it offered
-  pub all-put : isGood (commandCall rec cmd p0 p1 sent received .answer) ≡ true → among (Erase ∷ []) (operationOf (codeOf cmd)) ≡ false
-      → caused rec cmd sent (commandCall rec cmd p0 p1 sent received) ≡ putFrom (decodeOf rec .position) (offered (operationOf (codeOf cmd)) (decodeOf rec) cmd sent)
+  pub all-put : isGood (commandCall rec (lent cmd p0 p1 sent received) .answer) ≡ true → erases (operationOf (codeOf cmd)) ≡ false
+      → caused rec cmd sent (commandCall rec (lent cmd p0 p1 sent received)) ≡ putFrom (decodeOf rec .position) (offered (operationOf (codeOf cmd)) (decodeOf rec) cmd sent)

@@ -62,7 +62,7 @@ says t key asc ascq = eqb (t .key) key && eqb (t .asc) asc && eqb (t .ascq) ascq
 unfoldable pub metOf : Result → Met
 metOf r =
     let t : Sense = partsOf (decodeOf (r .rec) .sense) in
-    let b : Met = object (block (take (r .answer .carried) (r .received))) in
+    let b : Met = object (block (take (r .answer .carried) (r .lent .received))) in
     cond (not (eqb (r .answer .refusal) 0)) nothingKnown
     (cond (isGood (r .answer)) b
     (cond (says t blankCheck 0x00 0x05) endOfData

@@ -11,12 +11,11 @@ use Rattle.answers.specs.Answers.{done}
 use Rattle.objects.specs.Events.{Event, cut}
 use Rattle.image.specs.Services.{blankCall, protectCall}
 use Rattle.record.specs.Record.{decodeOf}
-use Rattle.codes.specs.declared.operation.Operation.the-variants.{Erase}
 use Rattle.codes.specs.Codes.{codeOf, operationOf}
 use Rattle.transfer.specs.Transfer.{putFrom}
-use Rattle.commands.specs.Kinds.{among}
+use Rattle.commands.specs.Kinds.{erases}
 use Rattle.commands.specs.Act.{offered}
-use Rattle.commands.specs.Call.{Result, commandCall}
+use Rattle.commands.specs.Call.{lent, Result, commandCall}
 
 -- ---- "Follow one cartridge": its two partitions by their numbers; of a cartridge with one the second is empty
 
@@ -82,11 +81,11 @@ pub data Call : Type 0 where
 
 -- the command, as demand 2 defines it
 abbrev pub commanded : Lending → Cartridge → List ℕ → List ℕ → List ℕ → List ℕ → Result
-commanded l c rec cmd sent received = commandCall rec cmd (slices l c .part0) (slices l c .part1) sent received
+commanded l c rec cmd sent received = commandCall rec (lent cmd (slices l c .part0) (slices l c .part1) sent received)
 
 -- the two slices that it leaves
 abbrev pub slicesLeft : Result → Cartridge
-slicesLeft r = cartridge (r .part0) (r .part1)
+slicesLeft r = cartridge (r .lent .part0) (r .lent .part1)
 
 -- the cartridge after a call; a mount alters the record alone
 unfoldable pub after : Call → Cartridge → Cartridge
@@ -107,7 +106,7 @@ unfoldable pub caused : List ℕ → List ℕ → List ℕ → Result → List E
 caused rec cmd sent r =
     let o = operationOf (codeOf cmd) in
     let d = decodeOf rec in
-    cond (among (Erase ∷ []) o) (cond (isGood (r .answer)) (cut (d .position) ∷ []) [])
+    cond (erases o) (cond (isGood (r .answer)) (cut (d .position) ∷ []) [])
     (putFrom (d .position) (take (decodeOf (r .rec) .position - d .position) (offered o d cmd sent)))
 
 -- on the cartridge's partition s: a command writes the partition that the record says is current

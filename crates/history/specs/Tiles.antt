@@ -18,7 +18,7 @@ use Rattle.codes.specs.Codes.{codeOf, operationOf}
 use Rattle.codes.specs.Fields.{fixedOf, transferOf}
 use Rattle.commands.specs.Stop.{first}
 use Rattle.commands.specs.Kinds.{writes}
-use Rattle.commands.specs.Call.{commandTests}
+use Rattle.commands.specs.Call.{lent, commandTests}
 use Rattle.history.specs.History.{Slot, number, Cartridge, part, Lending, slices, isLentAs, Call, command, mount, protection, commanded, after, ends, past}
 use Rattle.history.specs.Demand3.{Mounted, AtBeginning, Reading, object, readings}
 
@@ -75,7 +75,7 @@ abbrev pub Harmless : Call → Cartridge → Type 0
 Harmless (mount l rec) c = Unit {0}
 Harmless (protection s on) c = Unit {0}
 Harmless (command l rec cmd sent received) c =
-    (writes (operationOf (codeOf cmd)) ≡ false) ⊎ (first (commandTests rec cmd (slices l c .part0) (slices l c .part1) sent received) ≡ none → ⊥)
+    (writes (operationOf (codeOf cmd)) ≡ false) ⊎ (first (commandTests rec (lent cmd (slices l c .part0) (slices l c .part1) sent received)) ≡ none → ⊥)
 
 unfoldable pub AllHarmless : List Call → Cartridge → Type 0
 AllHarmless [] c = Unit {0}

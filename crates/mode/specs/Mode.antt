@@ -8,6 +8,27 @@ use lib.ListN.{getD}
 use Rattle.words.specs.Words.{be, bytes, zeros}
 use Rattle.objects.specs.Object.{largestBlock}
 
+-- ---- how long each reply is
+
+abbrev pub limitsLength : ℕ
+limitsLength = 6
+
+-- MODE SENSE without and with a descriptor; MODE SELECT's lists are as long
+abbrev pub headerLength : ℕ
+headerLength = 4
+
+abbrev pub wholeLength : ℕ
+wholeLength = 12
+
+-- READ POSITION in its two forms
+abbrev pub shortLength : ℕ
+shortLength = 20
+
+abbrev pub longLength : ℕ
+longLength = 32
+
+-- ---- their bytes
+
 -- READ BLOCK LIMITS: 00 01 00 00 00 01: the largest block in three bytes, the least, 1, in two
 unfoldable pub blockLimits : List ℕ
 blockLimits = (0x00 ∷ []) ++ bytes 3 largestBlock ++ bytes 2 1
@@ -19,12 +40,6 @@ modeData dbd protected blockLength =
     cond dbd (0x03 ∷ 0x00 ∷ wp ∷ 0x00 ∷ []) ((0x0B ∷ 0x00 ∷ wp ∷ 0x08 ∷ []) ++ zeros 5 ++ bytes 3 blockLength)
 
 -- MODE SELECT: "List length 0 (no change), 4 or 12": its header, and with a descriptor
-abbrev pub headerLength : ℕ
-headerLength = 4
-
-abbrev pub wholeLength : ℕ
-wholeLength = 12
-
 unfoldable pub listLengthKnown : ℕ → Bool
 listLengthKnown n = eqb n 0 || eqb n headerLength || eqb n wholeLength
 

@@ -22,15 +22,14 @@ use Rattle.codes.specs.Fields.{loadOf, allocationOf, transferOf, fixedOf, space
 use Rattle.codes.proofs.Rules.{operation-number}
 use Rattle.mode.specs.Mode.{listRight}
 use Rattle.commands.specs.declared.deeds.Left.{Left}
-use Rattle.commands.specs.Kinds.{isServed, needsCartridge}
+use Rattle.commands.specs.Kinds.{isServed, needsCartridge, writes}
 use Rattle.commands.specs.Act.{Seen, Deed, good, at, carrying, reading, writing, marking, spacing, locating, selecting, replyOf, act, eventsOf, offered, goesDown, wrote, toEnd}
-use Rattle.commands.specs.Call.{seenOf, nothing, changed}
+use Rattle.commands.specs.Step.{acted}
+use Rattle.commands.specs.Call.{seenOf, nothing, laidOut}
 use Rattle.commands.specs.Left.{leftBy, protectedOnly}
+use Rattle.commands.proofs.Classes.{named, Class, blocks, filemarks, erasing, quiet, classify, unchanged}
 
 -- ---- which command it is, by its number
-
-pub named : (o x : Operation) (n : ℕ) → n ≡ numberOf o → n ≡ numberOf x → o ≡ x
-named o x n e h = sym (operation-number o) ∙ ap operationOf (sym e ∙ h) ∙ operation-number x
 
 unnamed : (o x : Operation) (n : ℕ) → n ≡ numberOf o → (n ≡ numberOf x → ⊥) → eqb (numberOf o) (numberOf x) ≡ false
 unnamed o x n e h = rw (← e) (ne-eqb n (numberOf x) h)
@@ -49,7 +48,7 @@ mode-sense-left o n e h a b c =
 
 -- the Left r, the partition s become t, the buffer b become b′
 abbrev pub Acts : Operation → Drive → List ℕ → List ℕ → Seen → List ℕ → List ℕ → List ℕ → List ℕ → Left → Type 0
-Acts o d cmd sent v s t b b′ r = (r ≡ leftBy (act o d cmd sent v)) × (t ≡ changed o d cmd sent v s) × (b′ ≡ over b 0 (act o d cmd sent v .received))
+Acts o d cmd sent v s t b b′ r = (r ≡ leftBy (act o d cmd sent v)) × (t ≡ laidOut (acted o d cmd sent v) s) × (b′ ≡ over b 0 (act o d cmd sent v .received))
 
 unlaid : (b x : List ℕ) → x ≡ [] → b ≡ over b 0 x
 unfolding over
@@ -91,40 +90,40 @@ selecting-none d cmd sent = either (eqb (allocationOf cmd) 0) _ _ refl (either (
 
 module _ (o : Operation) (d : Drive) (cmd sent s b : List ℕ) (r : Left) where
   pub acts-read : o ≡ Read → (b′ : List ℕ) → r ≡ leftBy (reading d cmd (seenOf s)) → b′ ≡ over b 0 (reading d cmd (seenOf s) .received) → Acts o d cmd sent (seenOf s) s s b b′ r
-  unfolding act changed eventsOf occurs
-  acts-read e b′ q x = rw e (q, refl, x)
+  unfolding act
+  acts-read e b′ q x = rw e (q, sym (unchanged Read refl d cmd sent (seenOf s) s), x)
 
   pub acts-write : o ≡ Write → (t : List ℕ) → r ≡ leftBy (writing d cmd sent (seenOf s)) → t ≡ occurs (eventsOf Write d cmd sent (seenOf s)) s → Acts o d cmd sent (seenOf s) s t b b r
-  unfolding act changed
+  unfolding act laidOut acted
   acts-write e t q x = rw e (q, x, unlaid b _ (writing-none d cmd sent (seenOf s)))
 
   pub acts-filemarks : o ≡ WriteFilemarks → (t : List ℕ) → r ≡ leftBy (marking d cmd [] (seenOf s)) → t ≡ occurs (eventsOf WriteFilemarks d cmd [] (seenOf s)) s → Acts o d cmd sent (seenOf s) s t b b r
-  unfolding act changed eventsOf marking goesDown offered
+  unfolding act laidOut acted eventsOf marking goesDown offered
   acts-filemarks e t q x = rw e (q, x, unlaid b _ (marking-none d cmd sent (seenOf s)))
 
   pub acts-space : o ≡ Space → r ≡ leftBy (spacing d cmd (seenOf s)) → Acts o d cmd sent (seenOf s) s s b b r
-  unfolding act changed eventsOf occurs
-  acts-space e q = rw e (q, refl, unlaid b _ (spacing-none d cmd (seenOf s)))
+  unfolding act
+  acts-space e q = rw e (q, sym (unchanged Space refl d cmd sent (seenOf s) s), unlaid b _ (spacing-none d cmd (seenOf s)))
 
   pub acts-locate : o ≡ Locate → r ≡ leftBy (locating d cmd (seenOf s)) → Acts o d cmd sent (seenOf s) s s b b r
-  unfolding act changed eventsOf occurs
-  acts-locate e q = rw e (q, refl, unlaid b _ (locating-none d cmd (seenOf s)))
+  unfolding act
+  acts-locate e q = rw e (q, sym (unchanged Locate refl d cmd sent (seenOf s) s), unlaid b _ (locating-none d cmd (seenOf s)))
 
   pub acts-position : o ≡ ReadPosition → (b′ : List ℕ) → r ≡ leftBy (act ReadPosition d cmd [] (seenOf s)) → b′ ≡ over b 0 (replyOf ReadPosition d cmd (seenOf s)) → Acts o d cmd sent (seenOf s) s s b b′ r
-  unfolding act changed eventsOf occurs
-  acts-position e b′ q x = rw e (q, refl, x)
+  unfolding act
+  acts-position e b′ q x = rw e (q, sym (unchanged ReadPosition refl d cmd sent (seenOf s) s), x)
 
-  pub acts-erase : o ≡ Erase → (t : List ℕ) → r ≡ leftBy (act Erase d cmd [] (seenOf s)) → t ≡ changed Erase d cmd [] (seenOf s) s → Acts o d cmd sent (seenOf s) s t b b r
-  unfolding act changed eventsOf
+  pub acts-erase : o ≡ Erase → (t : List ℕ) → r ≡ leftBy (act Erase d cmd [] (seenOf s)) → t ≡ laidOut (acted Erase d cmd [] (seenOf s)) s → Acts o d cmd sent (seenOf s) s t b b r
+  unfolding act laidOut acted eventsOf
   acts-erase e t q x = rw e (q, x, unlaid b _ refl)
 
   pub acts-load : o ≡ LoadUnload → r ≡ leftBy (act LoadUnload d cmd [] nothing) → Acts o d cmd sent (seenOf s) s s b b r
-  unfolding act changed eventsOf occurs
-  acts-load e q = rw e (q, refl, unlaid b _ refl)
+  unfolding act
+  acts-load e q = rw e (q, sym (unchanged LoadUnload refl d cmd sent (seenOf s) s), unlaid b _ refl)
 
   pub acts-rewind : o ≡ Rewind → (x : Drive) → x ≡ at d 0 → r ≡ leftBy (carrying 0 (good x)) → Acts o d cmd sent (seenOf s) s s b b r
-  unfolding act changed eventsOf occurs
-  acts-rewind e x ex q = rw e (q ∙ rw ex refl, refl, unlaid b _ refl)
+  unfolding act
+  acts-rewind e x ex q = rw e (q ∙ rw ex refl, sym (unchanged Rewind refl d cmd sent (seenOf s) s), unlaid b _ refl)
 
 -- ---- LOAD UNLOAD
 
@@ -157,29 +156,23 @@ sees-guard Space d cmd sent v h = cc
 sees-guard Locate d cmd sent v h = cc
 sees-guard ReadPosition d cmd sent v h = cc
 
--- and leave every partition
-pub leaves-all : (o : Operation) (d : Drive) (cmd sent : List ℕ) (v : Seen) (p : List ℕ) → needsCartridge o ≡ false → p ≡ changed o d cmd sent v p
-unfolding changed eventsOf occurs
-leaves-all RequestSense d cmd sent v p h = refl
-leaves-all ReadBlockLimits d cmd sent v p h = refl
-leaves-all ModeSelect d cmd sent v p h = refl
-leaves-all ModeSense d cmd sent v p h = refl
-leaves-all TestUnitReady d cmd sent v p h = refl
-leaves-all Rewind d cmd sent v p h = refl
-leaves-all LoadUnload d cmd sent v p h = refl
-leaves-all NotServed d cmd sent v p h = refl
-leaves-all Read d cmd sent v p h = refl
-leaves-all Space d cmd sent v p h = refl
-leaves-all Locate d cmd sent v p h = refl
-leaves-all ReadPosition d cmd sent v p h = refl
-leaves-all Erase d cmd sent v p h = absurd (let z : _≡_ {A = ℕ} 0 1 = cc in omega arith)
-leaves-all Write d cmd sent v p h = absurd (let z : _≡_ {A = ℕ} 0 1 = cc in omega arith)
-leaves-all WriteFilemarks d cmd sent v p h = absurd (let z : _≡_ {A = ℕ} 0 1 = cc in omega arith)
+-- and write no partition
+pub no-writing : (o : Operation) → needsCartridge o ≡ false → writes o ≡ false
+no-writing o h = go (classify o) h
+  where
+    never : true ≡ false → writes o ≡ false
+    never e = absurd (let z : _≡_ {A = ℕ} 0 1 = cc in omega arith)
+
+    go : Class o → needsCartridge o ≡ false → writes o ≡ false
+    go (blocks e) h = never (rw e at h)
+    go (filemarks e) h = never (rw e at h)
+    go (erasing e) h = never (rw e at h)
+    go (quiet q) h = q
 
 -- the one that is left: TEST UNIT READY
 pub acts-last : (o : Operation) (d : Drive) (cmd sent s b : List ℕ) (r : Left) (n : ℕ) → n ≡ numberOf o → isServed o ≡ true → (n ≡ numberOf Read → ⊥) → (n ≡ numberOf Write → ⊥) → (n ≡ numberOf WriteFilemarks → ⊥) → (n ≡ numberOf Space → ⊥) → (n ≡ numberOf Locate → ⊥) → (n ≡ numberOf ReadPosition → ⊥) → (n ≡ numberOf Erase → ⊥) → (n ≡ numberOf LoadUnload → ⊥) → (n ≡ numberOf Rewind → ⊥) → needsCartridge o ≡ true → r ≡ leftBy (carrying 0 (good d)) → Acts o d cmd sent (seenOf s) s s b b r
-unfolding act changed eventsOf occurs
-acts-last TestUnitReady d cmd sent s b r n e v a1 a2 a3 a4 a5 a6 a7 a8 a9 h q = (q, refl, unlaid b _ refl)
+unfolding act
+acts-last TestUnitReady d cmd sent s b r n e v a1 a2 a3 a4 a5 a6 a7 a8 a9 h q = (q, sym (unchanged TestUnitReady refl d cmd sent (seenOf s) s), unlaid b _ refl)
 acts-last Read d cmd sent s b r n e v a1 a2 a3 a4 a5 a6 a7 a8 a9 h q = absurd (a1 e)
 acts-last Write d cmd sent s b r n e v a1 a2 a3 a4 a5 a6 a7 a8 a9 h q = absurd (a2 e)
 acts-last WriteFilemarks d cmd sent s b r n e v a1 a2 a3 a4 a5 a6 a7 a8 a9 h q = absurd (a3 e)
@@ -223,4 +216,4 @@ module _ (o : Operation) (d : Drive) (cmd sent : List ℕ) (g : Bool) (b : List 
   unfolding seenOf
   acts-apart n s eg b′ x =
       let w : act o d cmd sent (protectedOnly g) ≡ act o d cmd sent (seenOf s) = ap (λ (t : Bool). act o d cmd sent (protectedOnly t)) eg ∙ sees-guard o d cmd sent (seenOf s) n in
-      (x .0 ∙ ap leftBy w, leaves-all o d cmd sent (seenOf s) s n, x .1 ∙ ap (λ (y : Deed). over b 0 (y .received)) w)
+      (x .0 ∙ ap leftBy w, sym (unchanged o (no-writing o n) d cmd sent (seenOf s) s), x .1 ∙ ap (λ (y : Deed). over b 0 (y .received)) w)

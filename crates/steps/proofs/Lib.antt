@@ -1,4 +1,3 @@
-pub mod Passed
 pub mod Acts
 pub mod Alike
 pub mod Asked

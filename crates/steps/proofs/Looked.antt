@@ -1,11 +1,11 @@
 -- The partition that a command looks at is lent, sound, and long enough for the position; and its protection is what the tests were given.
 -- Assumes nothing.
-use Prim.Native.Nat.{ℕ, _≤_, _<_}
+use Prim.Native.Nat.{ℕ, _≤_, _<_, zero-le}
 use native.Mathlib.Omega.{arith}
 use mathlib.Core.Path.{_≡_, refl, sym, _∙_}
 use mathlib.Core.Bool.{Bool, true, false, cond, _&&_}
-use mathlib.Core.List.{List, [], _∷_}
-use borrow.Author.Tests.{eq-eqb, ne-eqb, eqb-true, leb-true, leb-false, ltb-true}
+use mathlib.Core.List.{List}
+use borrow.Author.Tests.{eq-eqb, ne-eqb, eqb-true, leb-true, leb-false, lt-ltb, le-ltb, ltb-true}
 use lib.Dec.{eqb, leb, ltb}
 use lib.ListN.{length}
 use Rattle.objects.specs.Object.{largestBlock}
@@ -13,15 +13,15 @@ use Rattle.image.specs.Image.{trailerLength, count, sound, protected}
 use Rattle.image.proofs.Facts.{sound-parts}
 use Rattle.image.proofs.Tests.{both}
 use Rattle.record.specs.declared.drive.Drive.{Drive}
-use Rattle.record.specs.Record.{wellFormed, placed, attentionKnown}
+use Rattle.record.specs.Record.{wellFormed, emptyHanded, placed, attentionKnown}
 use Rattle.codes.specs.declared.operation.Operation.{Operation}
-use Rattle.codes.specs.declared.operation.Operation.the-variants.{TestUnitReady, Rewind, RequestSense, ReadBlockLimits, Read, Write, WriteFilemarks, Space, ModeSelect, Erase, ModeSense, LoadUnload, Locate, ReadPosition, NotServed}
 use Rattle.codes.specs.Fields.{changesPartition, partitionOf}
 use Rattle.cartridge.specs.Mount.{absent}
-use Rattle.commands.specs.Kinds.{among, writes}
+use Rattle.commands.specs.Kinds.{locates, writes}
 use Rattle.commands.specs.Act.{targetOf}
-use Rattle.commands.specs.Call.{partition, looksAt, seenOf, nothing, seen, inserted}
-use Rattle.steps.specs.Stepped.{guardedNow}
+use Rattle.commands.specs.Call.{Lent, lent, partition, looksAt, seenOf, nothing, seen, inserted}
+use Rattle.commands.proofs.Classes.{not-locate}
+use Rattle.steps.specs.Served.{guardedNow}
 
 -- ---- a drive that is well formed and loaded
 
@@ -70,12 +70,12 @@ module _ (d : Drive) (p0 p1 : List ℕ) (l : Loaded d) (i : inserted d p0 p1 ≡
   sound-current = sound-at (d .current) (l .current-in)
 
   -- the one that the command looks at
-  module _ (o : Operation) (cmd : List ℕ) (n : among (Locate ∷ []) o && changesPartition cmd && leb (d .partitions) (partitionOf cmd) ≡ false) where
+  module _ (o : Operation) (cmd : List ℕ) (n : locates o && changesPartition cmd && leb (d .partitions) (partitionOf cmd) ≡ false) where
     looks-in : looksAt o d cmd < d .partitions
     unfolding looksAt targetOf
-    looks-in = go (among (Locate ∷ []) o) (changesPartition cmd) refl refl n
+    looks-in = go (locates o) (changesPartition cmd) refl refl n
       where
-        go : (a b : Bool) → among (Locate ∷ []) o ≡ a → changesPartition cmd ≡ b → a && b && leb (d .partitions) (partitionOf cmd) ≡ false → cond a (cond b (partitionOf cmd) (d .current)) (d .current) < d .partitions
+        go : (a b : Bool) → locates o ≡ a → changesPartition cmd ≡ b → a && b && leb (d .partitions) (partitionOf cmd) ≡ false → cond a (cond b (partitionOf cmd) (d .current)) (d .current) < d .partitions
         go true true x y e = leb-false (d .partitions) (partitionOf cmd) e
         go true false x y e = l .current-in
         go false b x y e = l .current-in
@@ -83,62 +83,55 @@ module _ (d : Drive) (p0 p1 : List ℕ) (l : Loaded d) (i : inserted d p0 p1 ≡
     pub sound-looked : sound (partition (looksAt o d cmd) p0 p1) ≡ true
     sound-looked = sound-at (looksAt o d cmd) looks-in
 
-    pub place-looked : cond (among (Locate ∷ []) o) true (leb (d .position) (count (partition (looksAt o d cmd) p0 p1))) ≡ true
+    pub place-looked : cond (locates o) true (leb (d .position) (count (partition (looksAt o d cmd) p0 p1))) ≡ true
     unfolding looksAt
-    place-looked = go (among (Locate ∷ []) o)
+    place-looked = go (locates o)
       where
         go : (a : Bool) → cond a true (leb (d .position) (count (partition (cond a (targetOf d cmd) (d .current)) p0 p1))) ≡ true
         go true = refl
         go false = found .2
 
-  pub seen-loaded : (o : Operation) (cmd : List ℕ) → seen o d cmd p0 p1 ≡ seenOf (partition (looksAt o d cmd) p0 p1)
-  unfolding seen
-  seen-loaded o cmd = rw (eq-eqb (d .loaded) 1 (l .is)) refl
+    pub seen-loaded : (sent received : List ℕ) → seen o d (lent cmd p0 p1 sent received) ≡ seenOf (partition (looksAt o d cmd) p0 p1)
+    unfolding seen
+    seen-loaded sent received = rw (lt-ltb (looksAt o d cmd) (d .partitions) looks-in) refl
 
-pub seen-unloaded : (o : Operation) (d : Drive) (cmd p0 p1 : List ℕ) → d .loaded ≡ 0 → seen o d cmd p0 p1 ≡ nothing
+-- of a drive with nothing loaded nothing is seen
+pub no-partitions : (d : Drive) → wellFormed d ≡ true → d .loaded ≡ 0 → d .partitions ≡ 0
+unfolding wellFormed emptyHanded
+no-partitions d h z =
+    let w : eqb (d .partitions) 0 && eqb (d .current) 0 && eqb (d .position) 0 ≡ true = rw (eq-eqb (d .loaded) 0 z) at (both (attentionKnown (d .attention) && leb (d .«block_length») largestBlock) _ h .1) in
+    eqb-true (d .partitions) 0 (both _ _ (both _ _ w .0) .0)
+
+pub seen-unloaded : (o : Operation) (d : Drive) (x : Lent) → wellFormed d ≡ true → d .loaded ≡ 0 → seen o d x ≡ nothing
 unfolding seen
-seen-unloaded o d cmd p0 p1 h = rw h refl
+seen-unloaded o d x w h = rw (le-ltb (looksAt o d (x .cmd)) (d .partitions) (omega (arith, no-partitions d w h))) refl
 
 -- ---- the protection that the tests were given
 
-not-locate : (o : Operation) → writes o ≡ true → among (Locate ∷ []) o ≡ false
-not-locate Write h = refl
-not-locate WriteFilemarks h = refl
-not-locate Erase h = refl
-not-locate TestUnitReady h = refl
-not-locate Rewind h = refl
-not-locate RequestSense h = refl
-not-locate ReadBlockLimits h = refl
-not-locate Read h = refl
-not-locate Space h = refl
-not-locate ModeSelect h = refl
-not-locate ModeSense h = refl
-not-locate LoadUnload h = refl
-not-locate ReadPosition h = refl
-not-locate NotServed h = refl
-not-locate Locate h = sym h
-
-pub guarded-alike : (o : Operation) (d : Drive) (cmd p0 p1 : List ℕ) → writes o ≡ true → guardedNow d p0 p1 ≡ (seen o d cmd p0 p1) .guarded
+pub guarded-alike : (o : Operation) (d : Drive) (x : Lent) → writes o ≡ true → (seen o d x) .guarded ≡ guardedNow d (x .part0) (x .part1)
 unfolding guardedNow seen seenOf looksAt
-guarded-alike o d cmd p0 p1 h = rw (not-locate o h) (go (eqb (d .loaded) 1))
+guarded-alike o d x h = rw (not-locate o h) (go (ltb (d .current) (d .partitions)))
   where
-    go : (t : Bool) → cond t (protected (partition (d .current) p0 p1)) false ≡ (cond t (seenOf (partition (d .current) p0 p1)) nothing) .guarded
+    go : (t : Bool) → (cond t (seenOf (partition (d .current) (x .part0) (x .part1))) nothing) .guarded ≡ cond t (protected (partition (d .current) (x .part0) (x .part1))) false
     go true = refl
     go false = refl
 
-module _ (d : Drive) (p0 p1 : List ℕ) where
+module _ (d : Drive) (p0 p1 : List ℕ) (w : wellFormed d ≡ true) where
   pub guards-none : d .loaded ≡ 0 → false ≡ guardedNow d p0 p1
   unfolding guardedNow
-  guards-none h = rw h refl
+  guards-none h = rw (no-partitions d w h, le-ltb (d .current) 0 zero-le) refl
 
-  module _ (h : d .loaded ≡ 1) (b : Bool) where
+  module _ (z : d .loaded ≡ 0 → ⊥) (b : Bool) where
+    there : ltb (d .current) (d .partitions) ≡ true
+    there = lt-ltb (d .current) (d .partitions) (loaded d w z .current-in)
+
     pub guards-second : d .current ≡ 1 → b ≡ protected p1 → b ≡ guardedNow d p0 p1
     unfolding guardedNow
-    guards-second k e = e ∙ rw (h, k) refl
+    guards-second k e = e ∙ rw (there, k) refl
 
     pub guards-first : (d .current ≡ 1 → ⊥) → b ≡ protected p0 → b ≡ guardedNow d p0 p1
     unfolding guardedNow
-    guards-first k e = e ∙ rw (h, ne-eqb (d .current) 1 k) refl
+    guards-first k e = e ∙ rw (there, ne-eqb (d .current) 1 k) refl
 
 -- a sound partition has a trailer
 pub trailed : (d : Drive) (p0 p1 : List ℕ) (l : Loaded d) (i : inserted d p0 p1 ≡ true) → (d .current ≡ 1 → trailerLength ≤ length p1) × ((d .current ≡ 1 → ⊥) → trailerLength ≤ length p0)

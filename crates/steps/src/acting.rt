@@ -9,13 +9,14 @@ ghost use lib.ListN.{length};
 ghost use Rattle.words.specs.Words.{over};
 ghost use Rattle.objects.specs.Object.{largestBlock};
 ghost use Rattle.image.specs.Image.{count, sound};
-ghost use Rattle.codes.specs.declared.operation.Operation.the-variants.{LoadUnload, Locate};
+ghost use Rattle.codes.specs.declared.operation.Operation.the-variants.{LoadUnload};
 ghost use Rattle.codes.specs.Codes.{codeOf, tooShort, operationOf};
 ghost use Rattle.commands.specs.Stop.{first};
-ghost use Rattle.commands.specs.Kinds.{among, needsCartridge};
+ghost use Rattle.commands.specs.Kinds.{locates, needsCartridge};
 ghost use Rattle.commands.specs.Tests.{tests};
 ghost use Rattle.commands.specs.Act.{act};
-ghost use Rattle.commands.specs.Call.{seenOf, changed, nothing};
+ghost use Rattle.commands.specs.Step.{acted};
+ghost use Rattle.commands.specs.Call.{seenOf, laidOut, nothing};
 ghost use Rattle.commands.specs.Left.{leftBy, protectedOnly};
 use crate::partitions::is_protected;
 use codes::Operation;
@@ -31,7 +32,7 @@ pub fn act_apart(
     sent: &[u8],
     received: &mut [u8],
 ) -> Left
-    requires { ⌜ (tooShort (now cmd) ≡ false) × (o ≡ operationOf (codeOf (now cmd))) × (needsCartridge o ≡ false) × (first (tests o d (now cmd) (protectedOnly guarded) (now sent) (now received)) ≡ none) ⌝ }
+    requires { ⌜ (tooShort (now cmd) ≡ false) × (o ≡ operationOf (codeOf (now cmd))) × (needsCartridge o ≡ false) × (first (tests o d (now cmd) (protectedOnly guarded) (now sent) (length (now received))) ≡ none) ⌝ }
     ensures { λ r. ⌜ (r ≡ leftBy (act o d (now (cmd .entry)) (now (sent .entry)) (protectedOnly guarded))) × (now (received .exit) ≡ over (now (received .entry)) 0 (act o d (now (cmd .entry)) (now (sent .entry)) (protectedOnly guarded) .received)) ⌝ }
 {
     let n = codes::number_of(o);
@@ -67,8 +68,8 @@ pub fn act_on(
     sent: &[u8],
     received: &mut [u8],
 ) -> Left
-    requires { ⌜ (tooShort (now cmd) ≡ false) × (o ≡ operationOf (codeOf (now cmd))) × (first (tests o d (now cmd) (seenOf (now s)) (now sent) (now received)) ≡ none) × (sound (now s) ≡ true) × (cond (among (Locate ∷ []) o) true (leb (d .position) (count (now s))) ≡ true) × (d .«block_length» ≤ largestBlock) ⌝ }
-    ensures { λ r. ⌜ (r ≡ leftBy (act o d (now (cmd .entry)) (now (sent .entry)) (seenOf (now (s .entry))))) × (now (s .exit) ≡ changed o d (now (cmd .entry)) (now (sent .entry)) (seenOf (now (s .entry))) (now (s .entry))) × (now (received .exit) ≡ over (now (received .entry)) 0 (act o d (now (cmd .entry)) (now (sent .entry)) (seenOf (now (s .entry))) .received)) ⌝ }
+    requires { ⌜ (tooShort (now cmd) ≡ false) × (o ≡ operationOf (codeOf (now cmd))) × (first (tests o d (now cmd) (seenOf (now s)) (now sent) (length (now received))) ≡ none) × (sound (now s) ≡ true) × (cond (locates o) true (leb (d .position) (count (now s))) ≡ true) × (d .«block_length» ≤ largestBlock) ⌝ }
+    ensures { λ r. ⌜ (r ≡ leftBy (act o d (now (cmd .entry)) (now (sent .entry)) (seenOf (now (s .entry))))) × (now (s .exit) ≡ laidOut (acted o d (now (cmd .entry)) (now (sent .entry)) (seenOf (now (s .entry)))) (now (s .entry))) × (now (received .exit) ≡ over (now (received .entry)) 0 (act o d (now (cmd .entry)) (now (sent .entry)) (seenOf (now (s .entry))) .received)) ⌝ }
 {
     let n = codes::number_of(o);
     if n == codes::READ {

@@ -3,5 +3,5 @@ mod acting;
 mod partitions;
 mod stepping;
 
-pub use stepping::Stepped;
+pub use stepping::Served;
 pub use stepping::serve_by_value;

@@ -7,9 +7,10 @@ ghost use Rattle.record.specs.Record.{wellFormed, withSense};
 ghost use Rattle.codes.specs.Codes.{codeOf, tooShort, operationOf};
 ghost use Rattle.commands.specs.Stop.{first};
 ghost use Rattle.commands.specs.Tests.{tests};
-ghost use Rattle.commands.specs.Call.{checkAnswer, inserted, seen, acted, stepOf, driveCall, looksAt};
-ghost use Rattle.commands.specs.Left.{protectedOnly};
-ghost use Rattle.steps.specs.Stepped.{outcomeOf, guardedNow, answerOf};
+ghost use lib.ListN.{length};
+ghost use Rattle.commands.specs.Step.{checkAnswer, acted};
+ghost use Rattle.commands.specs.Call.{lent, inserted, seen, looksAt, applied, stepOf, driveCall};
+ghost use Rattle.steps.specs.Served.{outcomeOf, guardedNow, answerOf};
 use crate::acting::act_apart;
 use crate::acting::act_on;
 use crate::partitions::is_inserted;
@@ -21,26 +22,26 @@ use record::Drive;
 use stops::Stop;
 
 // The drive after a command, and the answer.
-pub struct Stepped {
+pub struct Served {
     pub drive: Drive,
     pub answer: Answer,
 }
 
 // A refusal by number: nothing changes.
-fn refuses(d: Drive, number: u8) -> Stepped
+fn refuses(d: Drive, number: u8) -> Served
     ensures { λ r. ⌜ (r .drive ≡ d) × (r .answer ≡ refused number) ⌝ }
 {
-    Stepped {
+    Served {
         drive: d,
         answer: answers::refused(number),
     }
 }
 
 // CHECK CONDITION, nothing carried, with this sense.
-fn checks(d: Drive, sense: [u8; 18]) -> Stepped
+fn checks(d: Drive, sense: [u8; 18]) -> Served
     ensures { λ r. ⌜ (r .drive ≡ withSense d sense) × (r .answer ≡ checkAnswer) ⌝ }
 {
-    Stepped {
+    Served {
         drive: record::with_sense(d, sense),
         answer: Answer {
             refusal: 0,
@@ -51,11 +52,11 @@ fn checks(d: Drive, sense: [u8; 18]) -> Stepped
 }
 
 // What an act leaves.
-fn answers_with(l: Left) -> Stepped
+fn answers_with(l: Left) -> Served
     ensures { λ r. ⌜ (r .drive ≡ l .drive) × (r .answer ≡ answerOf l) ⌝ }
 {
     let drive = l.drive;
-    Stepped {
+    Served {
         drive: drive,
         answer: Answer {
             refusal: 0,
@@ -99,9 +100,9 @@ fn acts(
     p1: &mut [u8],
     sent: &[u8],
     received: &mut [u8],
-) -> Stepped
-    requires { ⌜ (tooShort (now cmd) ≡ false) × (o ≡ operationOf (codeOf (now cmd))) × (wellFormed d ≡ true) × (inserted d (now p0) (now p1) ≡ true) × (first (tests o d (now cmd) (seen o d (now cmd) (now p0) (now p1)) (now sent) (now received)) ≡ none) ⌝ }
-    ensures { λ r. ⌜ outcomeOf r (now (p0 .exit)) (now (p1 .exit)) (now (received .exit)) ≡ acted o d (now (cmd .entry)) (now (p0 .entry)) (now (p1 .entry)) (now (sent .entry)) (now (received .entry)) (seen o d (now (cmd .entry)) (now (p0 .entry)) (now (p1 .entry))) ⌝ }
+) -> Served
+    requires { ⌜ (tooShort (now cmd) ≡ false) × (o ≡ operationOf (codeOf (now cmd))) × (wellFormed d ≡ true) × (inserted d (now p0) (now p1) ≡ true) × (first (tests o d (now cmd) (seen o d (lent (now cmd) (now p0) (now p1) (now sent) (now received))) (now sent) (length (now received))) ≡ none) ⌝ }
+    ensures { λ r. ⌜ outcomeOf r (lent (now (cmd .entry)) (now (p0 .exit)) (now (p1 .exit)) (now (sent .entry)) (now (received .exit))) ≡ applied (acted o d (now (cmd .entry)) (now (sent .entry)) (seen o d (lent (now (cmd .entry)) (now (p0 .entry)) (now (p1 .entry)) (now (sent .entry)) (now (received .entry))))) (looksAt o d (now (cmd .entry))) (lent (now (cmd .entry)) (now (p0 .entry)) (now (p1 .entry)) (now (sent .entry)) (now (received .entry))) ⌝ }
 {
     if d.loaded == 0 {
         return answers_with(act_apart(o, d, cmd, false, sent, received));
@@ -120,9 +121,9 @@ fn step(
     p1: &mut [u8],
     sent: &[u8],
     received: &mut [u8],
-) -> Stepped
+) -> Served
     requires { ⌜ (tooShort (now cmd) ≡ false) × (wellFormed d ≡ true) × (inserted d (now p0) (now p1) ≡ true) ⌝ }
-    ensures { λ r. ⌜ outcomeOf r (now (p0 .exit)) (now (p1 .exit)) (now (received .exit)) ≡ stepOf d (now (cmd .entry)) (now (p0 .entry)) (now (p1 .entry)) (now (sent .entry)) (now (received .entry)) ⌝ }
+    ensures { λ r. ⌜ outcomeOf r (lent (now (cmd .entry)) (now (p0 .exit)) (now (p1 .exit)) (now (sent .entry)) (now (received .exit))) ≡ stepOf d (lent (now (cmd .entry)) (now (p0 .entry)) (now (p1 .entry)) (now (sent .entry)) (now (received .entry))) ⌝ }
 {
     let o = codes::operation_of(cmd[0]);
     let guarded = is_guarded(d, p0, p1);
@@ -143,8 +144,8 @@ pub fn serve_by_value(
     p1: &mut [u8],
     sent: &[u8],
     received: &mut [u8],
-) -> Stepped
-    ensures { λ r. ⌜ outcomeOf r (now (p0 .exit)) (now (p1 .exit)) (now (received .exit)) ≡ driveCall d (now (cmd .entry)) (now (p0 .entry)) (now (p1 .entry)) (now (sent .entry)) (now (received .entry)) ⌝ }
+) -> Served
+    ensures { λ r. ⌜ outcomeOf r (lent (now (cmd .entry)) (now (p0 .exit)) (now (p1 .exit)) (now (sent .entry)) (now (received .exit))) ≡ driveCall d (lent (now (cmd .entry)) (now (p0 .entry)) (now (p1 .entry)) (now (sent .entry)) (now (received .entry))) ⌝ }
 {
     if codes::is_too_short(cmd) {
         return refuses(d, answers::COMMAND_SHORT);

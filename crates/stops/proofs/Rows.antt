@@ -14,7 +14,8 @@ use Rattle.codes.specs.declared.operation.Operation.{Operation}
 use Rattle.codes.specs.declared.operation.Operation.the-variants.{Locate}
 use Rattle.codes.specs.Codes.{codeOf, tooShort, numberOf, rowOf, operationOf}
 use Rattle.codes.proofs.Rules.{no-command, operation-number}
-use Rattle.commands.specs.Kinds.{among, passesAttention, isServed}
+use Rattle.commands.specs.Act.{Seen}
+use Rattle.commands.specs.Kinds.{among, passesAttention, isServed, writes}
 use Rattle.commands.proofs.Among.{last}
 use Rattle.stops.proofs.Long.{served-long, locate-long}
 
@@ -29,6 +30,15 @@ same-command o x h = by (eqb (numberOf o) (numberOf x)) refl h
     by : (t : Bool) → eqb (numberOf o) (numberOf x) ≡ t → cond t true false ≡ true → o ≡ x
     by true q w = sym (operation-number o) ∙ ap operationOf (eqb-true (numberOf o) (numberOf x) q) ∙ operation-number x
     by false q w = absurd (let z : _≡_ {A = ℕ} 0 1 = cc in omega arith)
+
+-- ---- the row of the protection, by what is seen of it
+
+pub guarded-by : (o : Operation) (x : Bool) (v : Seen) → (writes o ≡ true → v .guarded ≡ x) → (b : Bool) → b ≡ writes o && x → b ≡ writes o && v .guarded
+guarded-by o x v g b e = e ∙ go (writes o) g
+  where
+    go : (t : Bool) → (t ≡ true → v .guarded ≡ x) → t && x ≡ t && v .guarded
+    go true h = sym (h refl)
+    go false h = refl
 
 -- ---- a row of two parts, of which the code looks at the second only where the first does not decide
 

@@ -1,12 +1,13 @@
 // The tests of a command in document 01's order, after 1 and 4: what ends it before it acts.
 ghost use mathlib.Core.Path.{_≡_};
-ghost use mathlib.Core.Bool.{false};
+ghost use mathlib.Core.Bool.{true, false};
 ghost use Prim.Native.Nat.{_≤_, _<_};
 ghost use lib.ListN.{length, drop};
 ghost use Rattle.codes.specs.Codes.{codeOf, tooShort, rowOf, operationOf};
 ghost use Rattle.commands.specs.Stop.{first};
 ghost use Rattle.commands.specs.Tests.{tests};
-ghost use Rattle.commands.specs.Left.{protectedOnly};
+ghost use Rattle.commands.specs.Kinds.{writes};
+ghost use Rattle.commands.specs.Act.{Seen};
 ghost use Rattle.stops.specs.Stops.{stopOf};
 
 mod conditions;
@@ -43,7 +44,7 @@ fn stop_of_served(
     received: &[u8],
 ) -> Stop
     requires { ⌜ (tooShort (now cmd) ≡ false) × (o ≡ operationOf (codeOf (now cmd))) × (rowOf (codeOf (now cmd)) < 14) × (5 ≤ length (now cmd)) ⌝ }
-    ensures { λ r. ⌜ stopOf r ≡ first (drop 2 (tests o d (now (cmd .entry)) (protectedOnly guarded) (now (sent .entry)) (now (received .entry)))) ⌝ }
+    ensures { λ r. ⌜ ((v : Seen) → (writes o ≡ true → v .guarded ≡ guarded) → stopOf r ≡ first (drop 2 (tests o d (now (cmd .entry)) v (now (sent .entry)) (length (now (received .entry)))))) ⌝ }
 {
     let field = is_any_field_wrong(o, d, cmd);
     let list = is_list_length_wrong(o, cmd);
@@ -76,7 +77,7 @@ fn stop_of_served(
     Stop::Pass
 }
 
-// The first test that holds, for a command block that is not too short, of a drive whose partition looked at is protected or not.
+// The first test that holds, for a command block that is not too short, whatever is seen of the partition looked at beyond whether it is protected.
 pub fn stop_of(
     o: Operation,
     d: Drive,
@@ -86,7 +87,7 @@ pub fn stop_of(
     received: &[u8],
 ) -> Stop
     requires { ⌜ (tooShort (now cmd) ≡ false) × (o ≡ operationOf (codeOf (now cmd))) ⌝ }
-    ensures { λ r. ⌜ stopOf r ≡ first (tests o d (now (cmd .entry)) (protectedOnly guarded) (now (sent .entry)) (now (received .entry))) ⌝ }
+    ensures { λ r. ⌜ ((v : Seen) → (writes o ≡ true → v .guarded ≡ guarded) → stopOf r ≡ first (tests o d (now (cmd .entry)) v (now (sent .entry)) (length (now (received .entry))))) ⌝ }
 {
     let waits = attention_waits(o, d);
     let served = commands::is_served(o);

@@ -5,8 +5,12 @@ ghost use mathlib.Core.Bool.{cond};
 ghost use Prim.Native.Nat.{_≤_, min};
 ghost use lib.Dec.{eqb};
 ghost use lib.ListN.{length};
+ghost use Rattle.sense.specs.Sense.{senseLength};
+ghost use Rattle.record.specs.declared.drive.Drive.{Drive};
 ghost use Rattle.codes.specs.Fields.{dbdOf, formOf, allocationOf};
-ghost use Rattle.commands.specs.Act.{Seen, shortForm};
+ghost use Rattle.mode.specs.Mode.{headerLength, wholeLength, shortLength, longLength};
+ghost use Rattle.commands.specs.Act.{shortForm};
+ghost use Rattle.commands.specs.Tests.{replyLength};
 ghost use Rattle.commands.specs.Tests.{taken as Tests·taken, needed as Tests·needed};
 use crate::conditions::is_same;
 use codes::Operation;
@@ -54,7 +58,7 @@ fn limited(cmd: &[u8], n: u64) -> u64
 // The length of the mode data.
 fn mode_length(cmd: &[u8]) -> u64
     requires { ⌜ 2 ≤ length (now cmd) ⌝ }
-    ensures { λ r. ⌜ r ≡ cond (dbdOf (now (cmd .entry))) 4 12 ⌝ }
+    ensures { λ r. ⌜ r ≡ cond (dbdOf (now (cmd .entry))) headerLength wholeLength ⌝ }
 {
     if codes::dbd(cmd) {
         return HEADER;
@@ -65,7 +69,7 @@ fn mode_length(cmd: &[u8]) -> u64
 // The length of the position, by its form.
 fn position_length(cmd: &[u8]) -> u64
     requires { ⌜ 2 ≤ length (now cmd) ⌝ }
-    ensures { λ r. ⌜ r ≡ cond (eqb (formOf (now (cmd .entry))) shortForm) 20 32 ⌝ }
+    ensures { λ r. ⌜ r ≡ cond (eqb (formOf (now (cmd .entry))) shortForm) shortLength longLength ⌝ }
 {
     let form = codes::form(cmd);
     if form == 0x00 {
@@ -74,26 +78,33 @@ fn position_length(cmd: &[u8]) -> u64
     LONG_POSITION
 }
 
-// How many bytes of the receiving buffer it may need: the same whatever it sees of the partition.
+// The length of its reply: the same whatever it sees of the partition.
+fn reply_length(o: Operation, cmd: &[u8]) -> u64
+    requires { ⌜ 5 ≤ length (now cmd) ⌝ }
+    ensures { λ r. ⌜ ((d : Drive) → length (d .sense) ≡ senseLength → r ≡ replyLength o d (now (cmd .entry))) ⌝ }
+{
+    if is_same(o, Operation::RequestSense) {
+        return limited(cmd, SENSE);
+    }
+    if is_same(o, Operation::ReadBlockLimits) {
+        return LIMITS;
+    }
+    if is_same(o, Operation::ModeSense) {
+        return limited(cmd, mode_length(cmd));
+    }
+    if is_same(o, Operation::ReadPosition) {
+        return position_length(cmd);
+    }
+    0
+}
+
+// How many bytes of the receiving buffer it may need.
 pub fn needed(o: Operation, d: Drive, cmd: &[u8]) -> u64
     requires { ⌜ 5 ≤ length (now cmd) ⌝ }
-    ensures { λ r. ⌜ ((v : Seen) → r ≡ Tests·needed o d (now (cmd .entry)) v) ⌝ }
+    ensures { λ r. ⌜ r ≡ Tests·needed o d (now (cmd .entry)) ⌝ }
 {
-    match o {
-        Operation::TestUnitReady => 0,
-        Operation::Rewind => 0,
-        Operation::RequestSense => limited(cmd, SENSE),
-        Operation::ReadBlockLimits => LIMITS,
-        Operation::Read => commands::bytes_asked(d, cmd),
-        Operation::Write => 0,
-        Operation::WriteFilemarks => 0,
-        Operation::Space => 0,
-        Operation::ModeSelect => 0,
-        Operation::Erase => 0,
-        Operation::ModeSense => limited(cmd, mode_length(cmd)),
-        Operation::LoadUnload => 0,
-        Operation::Locate => 0,
-        Operation::ReadPosition => position_length(cmd),
-        Operation::NotServed => 0,
+    if is_same(o, Operation::Read) {
+        return commands::bytes_asked(d, cmd);
     }
+    reply_length(o, cmd)
 }

@@ -1,4 +1,4 @@
--- The command, return by return: refused by 1, or by 4 for the record's length; refused by the service; or served, with the record written anew.
+-- The command, return by return: refused by 1 or 4 for a record of another length; refused by the service; or served, with the record written anew.
 -- Assumes nothing.
 use Prim.Native.Nat.{ℕ, _<_}
 use native.Mathlib.Omega.{arith}
@@ -15,39 +15,39 @@ use Rattle.record.specs.Record.{recordLength, wellRecord, decodeOf, encodeOf}
 use Rattle.record.proofs.Judged.{no-record}
 use Rattle.codes.specs.Codes.{tooShort}
 use Rattle.commands.specs.Stop.{refuse, first}
-use Rattle.commands.specs.Call.{Result, result, written, driveTests, driveCall, commandTests, commandCall}
+use Rattle.commands.specs.Call.{Lent, Result, result, written, driveCall, commandTests, commandCall}
 use Rattle.commands.proofs.Exact.{first-at, call-stops, refused-leaves}
-use Rattle.steps.specs.declared.stepping.Stepped.{Stepped}
-use Rattle.steps.specs.Stepped.{outcomeOf}
+use Rattle.steps.specs.declared.stepping.Served.{Served}
+use Rattle.steps.specs.Served.{outcomeOf}
 use Rattle.stormtoggle.specs.Calls.{returned, numberedResult}
 
-module _ (rec cmd p0 p1 sent b : List ℕ) where
-  refused-so : (n : ℕ) → first (commandTests rec cmd p0 p1 sent b) ≡ some (refuse n) → (n ≡ 0 → ⊥) → (a : Answer) → a ≡ refused n → result a rec p0 p1 b ≡ commandCall rec cmd p0 p1 sent b
-  refused-so n e z a ea = ap (λ (x : Answer). result x rec p0 p1 b) ea ∙ sym (call-stops rec cmd p0 p1 sent b (refuse n) e ∙ refused-leaves rec cmd p0 p1 sent b n (positive n z))
+module _ (rec : List ℕ) (x : Lent) where
+  refused-so : (n : ℕ) → first (commandTests rec x) ≡ some (refuse n) → (n ≡ 0 → ⊥) → (a : Answer) → a ≡ refused n → result a rec x ≡ commandCall rec x
+  refused-so n e z a ea = ap (λ (y : Answer). result y rec x) ea ∙ sym (call-stops rec x (refuse n) e ∙ refused-leaves rec x n (positive n z))
     where
       positive : (n : ℕ) → (n ≡ 0 → ⊥) → 0 < n
       positive n z = omega arith
 
-  module _ (t : Bool) (et : t ≡ tooShort cmd) where
-    pub short-so : t ≡ true → (a : Answer) → a ≡ refused 1 → result a rec p0 p1 b ≡ commandCall rec cmd p0 p1 sent b
+  module _ (t : Bool) (et : t ≡ tooShort (x .cmd)) where
+    pub short-so : t ≡ true → (a : Answer) → a ≡ refused 1 → result a rec x ≡ commandCall rec x
     unfolding commandTests
-    short-so h a ea = refused-so 1 (first-at (commandTests rec cmd p0 p1 sent b) 0 (sym et ∙ h)) (λ z. omega arith) a ea
+    short-so h a ea = refused-so 1 (first-at (commandTests rec x) 0 (sym et ∙ h)) (λ z. omega arith) a ea
 
-    pub length-so : t ≡ false → (length rec ≡ recordLength → ⊥) → (a : Answer) → a ≡ refused 4 → result a rec p0 p1 b ≡ commandCall rec cmd p0 p1 sent b
+    pub length-so : t ≡ false → (length rec ≡ recordLength → ⊥) → (a : Answer) → a ≡ refused 4 → result a rec x ≡ commandCall rec x
     unfolding commandTests
-    length-so h k a ea = refused-so 4 (first-at (commandTests rec cmd p0 p1 sent b) 1 (sym et ∙ h, rw (← no-record rec k) refl)) (λ z. omega arith) a ea
+    length-so h k a ea = refused-so 4 (first-at (commandTests rec x) 1 (sym et ∙ h, rw (← no-record rec k) refl)) (λ z. omega arith) a ea
 
-  module _ (k : length rec ≡ recordLength) (d : Drive) (ed : d ≡ decodeOf rec) (s : Stepped) (q0 q1 c : List ℕ) (es : outcomeOf s q0 q1 c ≡ driveCall d cmd p0 p1 sent b) where
+  module _ (k : length rec ≡ recordLength) (d : Drive) (ed : d ≡ decodeOf rec) (s : Served) (y : Lent) (es : outcomeOf s y ≡ driveCall d x) where
     -- of a record of the right length, the call is that of its drive
-    served-so : written rec (outcomeOf s q0 q1 c) ≡ commandCall rec cmd p0 p1 sent b
-    unfolding commandCall commandTests driveCall driveTests wellRecord
-    served-so = ap (written rec) (es ∙ ap (λ (y : Drive). driveCall y cmd p0 p1 sent b) ed) ∙ rw (eq-eqb (length rec) recordLength k) refl
+    served-so : written rec (outcomeOf s y) ≡ commandCall rec x
+    unfolding commandCall driveCall wellRecord
+    served-so = ap (written rec) (es ∙ ap (λ (e : Drive). driveCall e x) ed) ∙ rw (eq-eqb (length rec) recordLength k) refl
 
-    pub served-refused : (s .answer .refusal ≡ 0 → ⊥) → result (s .answer) rec q0 q1 c ≡ commandCall rec cmd p0 p1 sent b
+    pub served-refused : (s .answer .refusal ≡ 0 → ⊥) → result (s .answer) rec y ≡ commandCall rec x
     served-refused z = rw (ne-eqb (s .answer .refusal) 0 z) at served-so
 
-    pub served-done : s .answer .refusal ≡ 0 → (r : List ℕ) → r ≡ encodeOf (s .drive) → result (s .answer) r q0 q1 c ≡ commandCall rec cmd p0 p1 sent b
-    served-done z r er = ap (λ (y : List ℕ). result (s .answer) y q0 q1 c) er ∙ (rw (eq-eqb (s .answer .refusal) 0 z) at served-so)
+    pub served-done : s .answer .refusal ≡ 0 → (r : List ℕ) → r ≡ encodeOf (s .drive) → result (s .answer) r y ≡ commandCall rec x
+    served-done z r er = ap (λ (q : List ℕ). result (s .answer) q y) er ∙ (rw (eq-eqb (s .answer .refusal) 0 z) at served-so)
 
-pub returned-is : (n : ℕ) (a : Answer) (rec p0 p1 b : List ℕ) (o : Result) → n ≡ packed a → result a rec p0 p1 b ≡ o → returned n rec p0 p1 b ≡ numberedResult o
-returned-is n a rec p0 p1 b o e q = ap (λ (x : ℕ). returned x rec p0 p1 b) e ∙ ap numberedResult q
+pub returned-is : (n : ℕ) (a : Answer) (rec : List ℕ) (x : Lent) (o : Result) → n ≡ packed a → result a rec x ≡ o → returned n rec x ≡ numberedResult o
+returned-is n a rec x o e q = ap (λ (m : ℕ). returned m rec x) e ∙ ap numberedResult q

@@ -8,7 +8,7 @@ use Rattle.answers.specs.declared.Answer.{Answer}
 use Rattle.answers.specs.Answers.{Left, left}
 use Rattle.image.specs.Services.{blankCall, protectCall, viewOf, shown, placed}
 use Rattle.cartridge.specs.Mount.{freshCall, mountCall}
-use Rattle.commands.specs.Call.{Result, result, commandCall}
+use Rattle.commands.specs.Call.{Lent, Result, result, commandCall}
 use Rattle.stormtoggle.specs.Calls.{Returned, numbered, numberedResult, viewNumber}
 use Rattle.stormtoggle.specs.Views.{chosen, chosenPlace}
 
@@ -37,27 +37,9 @@ pub view-determined : (p0 p1 : List ℕ) (q0 q1 : ℕ × ℕ) (k i : ℕ) (s t :
     → (s ≡ t) × (q ≡ r)
 view-determined p0 p1 q0 q1 k i s t q r e f = (e .0 ∙ sym (f .0), e .1 ∙ sym (f .1))
 
--- the command: answer, record, both partitions and the receiving buffer
-pub record Same (a b : Answer) (rec rec′ p0 p0′ p1 p1′ c c′ : List ℕ) : Type 0 where
-  pub answer : a ≡ b
-  pub rec-same : rec ≡ rec′
-  pub part0 : p0 ≡ p0′
-  pub part1 : p1 ≡ p1′
-  pub received : c ≡ c′
-
-pub command-determined : (rec cmd p0 p1 sent received : List ℕ) (a b : Answer) (r r′ s s′ t t′ c c′ : List ℕ)
-    → result a r s t c ≡ commandCall rec cmd p0 p1 sent received
-    → result b r′ s′ t′ c′ ≡ commandCall rec cmd p0 p1 sent received
-    → Same a b r r′ s s′ t t′ c c′
-command-determined rec cmd p0 p1 sent received a b r r′ s s′ t t′ c c′ e f =
-    let p = e ∙ sym f in
-    record {
-      answer = ap (λ (x : Result). x .answer) p;
-      rec-same = ap (λ (x : Result). x .rec) p;
-      part0 = ap (λ (x : Result). x .part0) p;
-      part1 = ap (λ (x : Result). x .part1) p;
-      received = ap (λ (x : Result). x .received) p;
-    }
+-- the command: answer, record, and every slice, the partitions and the receiving buffer among them
+pub command-determined : (rec : List ℕ) (x : Lent) (a b : Answer) (r s : List ℕ) (y z : Lent) → result a r y ≡ commandCall rec x → result b s z ≡ commandCall rec x → (a ≡ b) × (r ≡ s) × (y ≡ z)
+command-determined rec x a b r s y z e f = let p = e ∙ sym f in (ap (λ (o : Result). o .answer) p, ap (λ (o : Result). o .rec) p, ap (λ (o : Result). o .lent) p)
 
 -- ---- the entry points for C: the number returned in place of the answer
 

@@ -4,7 +4,7 @@ use Prim.Native.Nat.{ℕ}
 use mathlib.Core.List.{List}
 use Rattle.answers.specs.Answers.{Left, packed, packedPart}
 use Rattle.image.specs.Services.{viewOf}
-use Rattle.commands.specs.Call.{Result}
+use Rattle.commands.specs.Call.{Lent, Result}
 
 -- a service that may alter one slice: the number returned, and the slice
 abbrev pub numbered : Left → ℕ × List ℕ
@@ -14,16 +14,14 @@ numbered o = (packed (o .answer), o .lent)
 abbrev pub viewNumber : List ℕ → List ℕ → ℕ → ℕ → ℕ
 viewNumber p0 p1 k i = let p = viewOf p0 p1 k i in packedPart (p .start) (p .len)
 
--- the command: the number returned, and the four slices that it may alter
+-- the command: the number returned, the record, and the slices
 pub record Returned : Type 0 where
   pub number : ℕ
   pub rec : List ℕ
-  pub part0 : List ℕ
-  pub part1 : List ℕ
-  pub received : List ℕ
+  pub lent : Lent
 
-abbrev pub returned : ℕ → List ℕ → List ℕ → List ℕ → List ℕ → Returned
-returned n rec p0 p1 r = record { number = n; rec = rec; part0 = p0; part1 = p1; received = r }
+abbrev pub returned : ℕ → List ℕ → Lent → Returned
+returned n rec x = record { number = n; rec = rec; lent = x }
 
 abbrev pub numberedResult : Result → Returned
-numberedResult o = returned (packed (o .answer)) (o .rec) (o .part0) (o .part1) (o .received)
+numberedResult o = returned (packed (o .answer)) (o .rec) (o .lent)

@@ -1,6 +1,6 @@
-// The command: number 1, number 4 for the record's length, and then the service, to which the drive that the record stands for is lent.
+// The command: refused for the record's length; else the service, to which the drive that the record stands for is lent.
 ghost use mathlib.Core.Path.{_≡_};
-ghost use Rattle.commands.specs.Call.{result, commandCall};
+ghost use Rattle.commands.specs.Call.{lent, result, commandCall};
 ghost use Rattle.stormtoggle.specs.Calls.{returned, numberedResult};
 use answers::Answer;
 
@@ -13,12 +13,13 @@ pub fn command(
     sent: &[u8],
     received: &mut [u8],
 ) -> Answer
-    ensures { λ r. ⌜ result r (now (rec .exit)) (now (p0 .exit)) (now (p1 .exit)) (now (received .exit)) ≡ commandCall (now (rec .entry)) (now (cmd .entry)) (now (p0 .entry)) (now (p1 .entry)) (now (sent .entry)) (now (received .entry)) ⌝ }
+    ensures { λ r. ⌜ result r (now (rec .exit)) (lent (now (cmd .entry)) (now (p0 .exit)) (now (p1 .exit)) (now (sent .entry)) (now (received .exit))) ≡ commandCall (now (rec .entry)) (lent (now (cmd .entry)) (now (p0 .entry)) (now (p1 .entry)) (now (sent .entry)) (now (received .entry))) ⌝ }
 {
-    if codes::is_too_short(cmd) {
-        return answers::refused(answers::COMMAND_SHORT);
-    }
+    // Number 1 comes before number 4; the service tests it for a record of the right length.
     if rec.len() != record::RECORD_LENGTH {
+        if codes::is_too_short(cmd) {
+            return answers::refused(answers::COMMAND_SHORT);
+        }
         return answers::refused(answers::RECORD_FAULT);
     }
     let d = record::decode(rec);
@@ -41,7 +42,7 @@ pub extern "C" fn stormtoggle_command(
     sent: &[u8],
     received: &mut [u8],
 ) -> u64
-    ensures { λ r. ⌜ returned r (now (rec .exit)) (now (p0 .exit)) (now (p1 .exit)) (now (received .exit)) ≡ numberedResult (commandCall (now (rec .entry)) (now (cmd .entry)) (now (p0 .entry)) (now (p1 .entry)) (now (sent .entry)) (now (received .entry))) ⌝ }
+    ensures { λ r. ⌜ returned r (now (rec .exit)) (lent (now (cmd .entry)) (now (p0 .exit)) (now (p1 .exit)) (now (sent .entry)) (now (received .exit))) ≡ numberedResult (commandCall (now (rec .entry)) (lent (now (cmd .entry)) (now (p0 .entry)) (now (p1 .entry)) (now (sent .entry)) (now (received .entry)))) ⌝ }
 {
     answers::pack(command(rec, cmd, p0, p1, sent, received))
 }

@@ -27,8 +27,8 @@ use Rattle.transfer.specs.Transfer.{blocksOf, marksOf, fitting, putFrom}
 use Rattle.transfer.proofs.Down.{Down, AllKept, down, down-inside, marks-kept, blocks-kept, marks-of, blocks-of, fitting-bytes}
 use Rattle.commands.specs.declared.deeds.Left.{Left}
 use Rattle.commands.specs.Act.{Deed, carrying, checked, good, at, warned, overflowed, offered, goesDown, wrote, writing, marking, act, eventsOf}
-use Rattle.commands.specs.Tests.{bytesAsked, fieldError}
-use Rattle.commands.specs.Call.{seenOf, changed}
+use Rattle.commands.specs.Step.{acted}
+use Rattle.commands.specs.Call.{seenOf, laidOut}
 use Rattle.commands.specs.Left.{leftBy}
 
 -- ---- what the numbers tell, of the partition t after the objects
@@ -167,33 +167,13 @@ module _ (d : Drive) (s : List ℕ) (k : sound s ≡ true) (h : d .position ≤ 
     unfolding eventsOf fitting putFrom occurs marksOf
     no-marks z = sym (ap (λ (os : List Object). occurs (putFrom (d .position) os) s) (marks-down ∙ ap (λ (x : ℕ). gone (marksOf x)) z))
 
-at-least : (b : ℕ) → (b ≡ 0 → ⊥) → 1 ≤ b
-at-least zero z = absurd (z refl)
-at-least (suc b) z = omega arith
-
--- ---- the fields of WRITE, as what is put requires them
-
-module _ (d : Drive) (cmd sent : List ℕ) (n : ℕ) (en : n ≡ transferOf cmd) (w : fieldError Write d cmd ≡ false) (q : bytesAsked d cmd ≤ length sent) where
-  pub fixed-fields : fixedOf cmd ≡ true → (1 ≤ d .«block_length») × (n * d .«block_length» ≤ length sent)
-  unfolding fieldError bytesAsked
-  fixed-fields f =
-      let z : d .«block_length» ≡ 0 → ⊥ = eqb-false (d .«block_length») 0 (rw f at w) in
-      (at-least (d .«block_length») z, rw en (rw f at q))
-
-  pub one-field : fixedOf cmd ≡ false → (n ≡ 0 → ⊥) → (1 ≤ n) × (n ≤ largestBlock) × (1 * n ≤ length sent)
-  unfolding fieldError bytesAsked
-  one-field f z =
-      let l : transferOf cmd ≤ largestBlock = ltb-false largestBlock (transferOf cmd) (rw f at w) in
-      let m : transferOf cmd ≤ length sent = rw f at q in
-      (at-least n z, omega arith, omega arith)
-
 -- ---- ERASE
 
 module _ (d : Drive) (cmd s t : List ℕ) (b : Bool) (eb : b ≡ longOf cmd) where
-  pub erased : b ≡ false → t ≡ occur (cut (d .position)) s → t ≡ changed Erase d cmd [] (seenOf s) s
-  unfolding changed eventsOf occurs
+  pub erased : b ≡ false → t ≡ occur (cut (d .position)) s → t ≡ laidOut (acted Erase d cmd [] (seenOf s)) s
+  unfolding laidOut acted eventsOf occurs
   erased h e = e ∙ rw (← eb, h) refl
 
-  pub erased-long : b ≡ true → t ≡ cleared (occur (cut (d .position)) s) → t ≡ changed Erase d cmd [] (seenOf s) s
-  unfolding changed eventsOf occurs
+  pub erased-long : b ≡ true → t ≡ cleared (occur (cut (d .position)) s) → t ≡ laidOut (acted Erase d cmd [] (seenOf s)) s
+  unfolding laidOut acted eventsOf occurs
   erased-long h e = e ∙ rw (← eb, h) refl

@@ -7,7 +7,8 @@ ghost use lib.ListN.{length};
 ghost use Rattle.image.specs.Image.{count, sound};
 ghost use Rattle.codes.specs.declared.operation.Operation.the-variants.{Erase};
 ghost use Rattle.commands.specs.Act.{act};
-ghost use Rattle.commands.specs.Call.{seenOf, changed};
+ghost use Rattle.commands.specs.Step.{acted};
+ghost use Rattle.commands.specs.Call.{seenOf, laidOut};
 ghost use Rattle.commands.specs.Left.{leftBy};
 use commands::Left;
 use record::Drive;
@@ -15,7 +16,7 @@ use record::Drive;
 // ERASE at the position of a sound partition.
 pub fn erase(s: &mut [u8], d: Drive, cmd: &[u8]) -> Left
     requires { ⌜ (sound (now s) ≡ true) × (d .position ≤ count (now s)) × (5 ≤ length (now cmd)) ⌝ }
-    ensures { λ r. ⌜ (r ≡ leftBy (act Erase d (now (cmd .entry)) [] (seenOf (now (s .entry))))) × (now (s .exit) ≡ changed Erase d (now (cmd .entry)) [] (seenOf (now (s .entry))) (now (s .entry))) ⌝ }
+    ensures { λ r. ⌜ (r ≡ leftBy (act Erase d (now (cmd .entry)) [] (seenOf (now (s .entry))))) × (now (s .exit) ≡ laidOut (acted Erase d (now (cmd .entry)) [] (seenOf (now (s .entry)))) (now (s .entry))) ⌝ }
 {
     let n = d.position as usize;
     if codes::long(cmd) {

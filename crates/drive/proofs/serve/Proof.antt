@@ -44,13 +44,13 @@ use denote.Exit.{yes}
 use Rattle.record.specs.declared.drive.Drive.{Drive}
 use Rattle.record.proofs.drive.Drive as T
 use Rattle.record.proofs.drive.Drive.Laws as T′
-use Rattle.steps.specs.declared.stepping.Stepped.{Stepped}
-use Rattle.steps.proofs.stepping.Stepped as N
-use Rattle.steps.proofs.stepping.Stepped.Laws as N′
+use Rattle.steps.specs.declared.stepping.Served.{Served}
+use Rattle.steps.proofs.stepping.Served as N
+use Rattle.steps.proofs.stepping.Served.Laws as N′
 use Rattle.answers.proofs.Answer as R
 use Rattle.answers.proofs.Answer.Laws as R′
-use Rattle.steps.specs.Stepped.{outcomeOf}
-use Rattle.commands.specs.Call.{driveCall}
+use Rattle.steps.specs.Served.{outcomeOf}
+use Rattle.commands.specs.Call.{lent, driveCall}
 use Rattle.steps.proofs.serve_by_value as callee
 use Rattle.steps.proofs.serve_by_value.Symbol as callee-def
 use Rattle.steps.proofs.serve_by_value.Symbol.{name as #steps·serve-by-value}
@@ -82,7 +82,7 @@ abbrev val : Slice → Val
 val x = sliceVal (x .ptr) (length (x .now))
 
 -- what whoever holds the result knows of its two parts
-parts : (r : Stepped) (vs : List Val) → Is N.the-row r vs → Is T.the-row (r .drive) (s-vals (r .drive)) × (Is R.the-row (r .answer) (r-vals (r .answer)) × Unit {0})
+parts : (r : Served) (vs : List Val) → Is N.the-row r vs → Is T.the-row (r .drive) (s-vals (r .drive)) × (Is R.the-row (r .answer) (r-vals (r .answer)) × Unit {0})
 parts r vs is = LL.owed N.the-type N′.the-laws r vs is
 
 module _ {M : Type 1} (𝓤 : URA M) (H : Heap 𝓤) (A : Atoms 𝓤) (W : Given 𝓤 H A) (at-mem : Memory → SProp 𝓤) (run : Routine → Fun 𝓤) (κ κ0 κ1 κ2 κ3 κ4 : Lft) (bounds : AllOutlive 6 (f.signature .outlives) (κ, (κ0, (κ1, (κ2, (κ3, (κ4, tt))))))) (q q0 q1 q2 q3 q4 : Share) (b o : ℕ) (γ : GName) (h : Drive) (c x0 x1 s x2 : Slice) where
@@ -118,10 +118,10 @@ module _ {M : Type 1} (𝓤 : URA M) (H : Heap 𝓤) (A : Atoms 𝓤) (W : Given
   goes = qed W (toks ∷ ‵ (T.the-row .own h (s-vals h)) ∷ ‵ slices ∷ []) ∵ move ! (1 ∷ 2 ∷ []) $ fjoin ! $ move ! (1 ∷ 0 ∷ []) $ join ! $ frame ! $ done !
 
   -- what the callee says, of its result and of the last lists
-  abbrev Said : Stepped → List ℕ → List ℕ → List ℕ → Type 0
-  Said r z-x0 z-x1 z-x2 = outcomeOf r z-x0 z-x1 z-x2 ≡ driveCall h (c .now) (x0 .now) (x1 .now) (s .now) (x2 .now)
+  abbrev Said : Served → List ℕ → List ℕ → List ℕ → Type 0
+  Said r z-x0 z-x1 z-x2 = outcomeOf r (lent (c .now) z-x0 z-x1 (s .now) z-x2) ≡ driveCall h (lent (c .now) (x0 .now) (x1 .now) (s .now) (x2 .now))
 
-  exits : (r : Stepped) (z-x0 z-x1 z-x2 : List ℕ) → Said r z-x0 z-x1 z-x2 → length z-x0 ≡ length (x0 .now) → length z-x1 ≡ length (x1 .now) → length z-x2 ≡ length (x2 .now) → Is R.the-row (r .answer) (r-vals (r .answer))
+  exits : (r : Served) (z-x0 z-x1 z-x2 : List ℕ) → Said r z-x0 z-x1 z-x2 → length z-x0 ≡ length (x0 .now) → length z-x1 ≡ length (x1 .now) → length z-x2 ≡ length (x2 .now) → Is R.the-row (r .answer) (r-vals (r .answer))
       → ent 𝓤 (⋆ 𝓤 H A (‵ (fobs γ (T.the-row .coded .code (r .drive))) ∷ ‵ (fbor κ (Body (mem T.the-row) b o γ)) ∷ ‵ (flft κ q) ∷ toks ∷ ‵ (finally u8 (x0 .name) z-x0) ∷ ‵ (finally u8 (x1 .name) z-x1) ∷ ‵ (finally u8 (x2 .name) z-x2) ∷ [])) (Post (only (r-vals (r .answer))))
   exits r z-x0 z-x1 z-x2 e e-x0 e-x1 e-x2 is =
       qed W (‵ (fobs γ (T.the-row .coded .code (r .drive))) ∷ ‵ (fbor κ (Body (mem T.the-row) b o γ)) ∷ ‵ (flft κ q) ∷ toks ∷ ‵ (finally u8 (x0 .name) z-x0) ∷ ‵ (finally u8 (x1 .name) z-x1) ∷ ‵ (finally u8 (x2 .name) z-x2) ∷ []) ∵
@@ -153,7 +153,7 @@ module _ {M : Type 1} (𝓤 : URA M) (H : Heap 𝓤) (A : Atoms 𝓤) (W : Given
         -- the call
         move ! (5 ∷ 1 ∷ 6 ∷ []) $ use3 W (raw (Callee 𝓤 H A at-mem run .pre to)) goes $
         calls-at ! fm (Callee 𝓤 H A at-mem run) known to (and-then ! (load ! (from ! (stop !)) (look ! 17 refl)) (and-then ! (load ! (from ! (stop !)) (look ! 29 refl)) (and-then ! (load ! (from ! (stop !)) (look ! 13 refl)) (and-then ! (load ! (from ! (stop !)) (look ! 9 refl)) (and-then ! (load ! (from ! (stop !)) (look ! 23 refl)) (and-then ! (load ! (from ! (stop !)) (look ! 5 refl)) (no-more !))))))) (λ w.
-        use1 W (later (some (λ (r : Stepped). (toks ⊛ ‵ (N.the-row .own r (w ∷ []))) ⊛ raw (ensured 𝓤 H A callee.ended (callee.clauses 𝓤 H A at-mem run) (κ0, (κ1, (κ2, (κ3, (κ4, tt))))) (h, (c, (x0, (x1, (s, (x2, tt)))))) tt r)))) (id⊢ 𝓤 _) $ await ! tt $ pick ! (λ r.
+        use1 W (later (some (λ (r : Served). (toks ⊛ ‵ (N.the-row .own r (w ∷ []))) ⊛ raw (ensured 𝓤 H A callee.ended (callee.clauses 𝓤 H A at-mem run) (κ0, (κ1, (κ2, (κ3, (κ4, tt))))) (h, (c, (x0, (x1, (s, (x2, tt)))))) tt r)))) (id⊢ 𝓤 _) $ await ! tt $ pick ! (λ r.
         -- what the callee ensures, at some last lists
         split ! $ move ! (1 ∷ []) $ use1 W (some (λ (zs : Unit {0} × (Unit {0} × (List ℕ × (List ℕ × (Unit {0} × (List ℕ × (Unit {0}))))))). ‵ (lasts callee.ended (κ0, (κ1, (κ2, (κ3, (κ4, tt))))) (h, (c, (x0, (x1, (s, (x2, tt)))))) zs) ⊛ raw (fact 𝓤 (Said r (zs .1 .1 .0) (zs .1 .1 .1 .0) (zs .1 .1 .1 .1 .1 .0))))) (id⊢ 𝓤 _) $ pick ! (λ zs.
         split ! $ move ! (1 ∷ []) $ heard ! (Said r (zs .1 .1 .0) (zs .1 .1 .1 .0) (zs .1 .1 .1 .1 .1 .0)) (λ e. fsplit ! $ drop ! $ fsplit ! $ drop ! $ fsplit ! $ fsplit ! $ move ! (1 ∷ []) $ feqL ! (λ e-x0. move ! (1 ∷ []) $ fsplit ! $ fsplit ! $ move ! (1 ∷ []) $ feqL ! (λ e-x1. move ! (1 ∷ []) $ fsplit ! $ drop ! $ fsplit ! $ fsplit ! $ move ! (1 ∷ []) $ feqL ! (λ e-x2.

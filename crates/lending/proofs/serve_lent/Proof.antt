@@ -46,12 +46,12 @@ use denote.Exit.{yes}
 use Rattle.record.specs.declared.drive.Drive.{Drive}
 use Rattle.record.proofs.drive.Drive as T
 use Rattle.record.proofs.drive.Drive.Laws as T′
-use Rattle.steps.specs.declared.stepping.Stepped.{Stepped}
+use Rattle.steps.specs.declared.stepping.Served.{Served}
 use Rattle.answers.specs.declared.Answer.{Answer}
-use Rattle.steps.specs.Stepped.{outcomeOf}
-use Rattle.commands.specs.Call.{driveCall}
-use Rattle.steps.proofs.stepping.Stepped as N
-use Rattle.steps.proofs.stepping.Stepped.Laws as N′
+use Rattle.steps.specs.Served.{outcomeOf}
+use Rattle.commands.specs.Call.{lent, driveCall}
+use Rattle.steps.proofs.stepping.Served as N
+use Rattle.steps.proofs.stepping.Served.Laws as N′
 use Rattle.answers.proofs.Answer as R
 use Rattle.answers.proofs.Answer.Laws as R′
 use Rattle.drive.proofs.serve as callee
@@ -75,7 +75,7 @@ s-vals = LL.vals T.the-type T′.the-laws
 abbrev r-vals : Answer → List Val
 r-vals = LL.vals R.the-type R′.the-laws
 
-abbrev n-vals : Stepped → List Val
+abbrev n-vals : Served → List Val
 n-vals = LL.vals N.the-type N′.the-laws
 
 abbrev Slice : Type 0
@@ -84,7 +84,7 @@ Slice = RefT (List ℕ)
 abbrev val : Slice → Val
 val x = sliceVal (x .ptr) (length (x .now))
 
-abbrev next : Drive → Answer → Stepped
+abbrev next : Drive → Answer → Served
 next d r = record { drive = d; answer = r }
 
 made : (d : Drive) (r : Answer) (vs : List Val) → Is T.the-row d (s-vals d) → Is R.the-row r vs → Is N.the-row (next d r) (n-vals (next d r))
@@ -141,7 +141,7 @@ module _ {M : Type 1} (𝓤 : URA M) (H : Heap 𝓤) (A : Atoms 𝓤) (W : Given
   goes ν γ l = qed W ((‵ (flft (ν ∷ []) fullShare) ⊛ toks) ∷ ‵ (lent-at ν γ l) ∷ ‵ slices ∷ []) ∵ move ! (1 ∷ 2 ∷ []) $ fjoin ! $ move ! (1 ∷ 0 ∷ []) $ join ! $ frame ! $ done !
 
   abbrev Said : Drive → Answer → List ℕ → List ℕ → List ℕ → Type 0
-  Said d r z-x0 z-x1 z-x2 = outcomeOf (next d r) z-x0 z-x1 z-x2 ≡ driveCall h (c .now) (x0 .now) (x1 .now) (s .now) (x2 .now)
+  Said d r z-x0 z-x1 z-x2 = outcomeOf (next d r) (lent (c .now) z-x0 z-x1 (s .now) z-x2) ≡ driveCall h (lent (c .now) (x0 .now) (x1 .now) (s .now) (x2 .now))
 
   exits : (d : Drive) (r : Answer) (z-x0 z-x1 z-x2 : List ℕ) → Said d r z-x0 z-x1 z-x2 → length z-x0 ≡ length (x0 .now) → length z-x1 ≡ length (x1 .now) → length z-x2 ≡ length (x2 .now) → Is N.the-row (next d r) (n-vals (next d r))
       → ent 𝓤 (⋆ 𝓤 H A (toks ∷ ‵ (finally u8 (x0 .name) z-x0) ∷ ‵ (finally u8 (x1 .name) z-x1) ∷ ‵ (finally u8 (x2 .name) z-x2) ∷ [])) (Post (only (n-vals (next d r))))

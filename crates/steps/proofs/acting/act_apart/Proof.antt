@@ -1,7 +1,8 @@
 -- The command by its number, and each as its own code says.
 -- Assumes nothing.
 use borrow.Author.Needs.{needs}
-use Rattle.steps.proofs.Acts.{named, mode-sense-left, apart-sense, apart-limits, apart-select, apart-mode}
+use Rattle.commands.proofs.Classes.{named}
+use Rattle.steps.proofs.Acts.{mode-sense-left, apart-sense, apart-limits, apart-select, apart-mode}
 use Rattle.steps.proofs.Asked.{asks-sense, asks-limits, asks-select, asks-mode}
 use Rattle.codes.specs.declared.operation.Operation.the-variants.{RequestSense, ReadBlockLimits, ModeSelect}
 use Rattle.steps.proofs.acting.act_apart.Statement.{statement}

@@ -1,9 +1,10 @@
 -- The command by its number; what its code asks for, from the tests passed; and what it leaves.
 -- Assumes nothing.
 use borrow.Author.Needs.{needs}
-use Rattle.steps.proofs.Acts.{named, acts-read, acts-write, acts-filemarks, acts-space, acts-locate, acts-position, acts-erase, acts-load, acts-rewind, acts-apart, acts-last}
+use Rattle.commands.proofs.Classes.{named}
+use Rattle.steps.proofs.Acts.{acts-read, acts-write, acts-filemarks, acts-space, acts-locate, acts-position, acts-erase, acts-load, acts-rewind, acts-apart, acts-last}
 use Rattle.steps.proofs.Asked.{five-on, asks-read, asks-write, asks-place, asks-locate, asks-position, asks-apart}
-use Rattle.steps.proofs.Passed.{passed}
+use Rattle.commands.proofs.Passed.{passed}
 use Rattle.image.proofs.Facts.{sound-parts}
 use native.Mathlib.Omega.{arith}
 use mathlib.Core.Path.{refl, sym, _∙_}

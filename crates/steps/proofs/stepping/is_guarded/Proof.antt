@@ -5,7 +5,7 @@ use Rattle.steps.proofs.stepping.is_guarded.Statement.{statement}
 use Rattle.steps.proofs.stepping.is_guarded.Tie as tie
 
 returns : tie.Need-returns
-returns c = guards-none _ _ _ (c .if1 .taken)
+returns c = guards-none _ _ _ (c .before .before .before .before .pre .0) (c .if1 .taken)
 
 is-protected-requires : tie.Need-is-protected-requires
 is-protected-requires c κs =
@@ -15,7 +15,7 @@ is-protected-requires c κs =
 returns-2 : tie.Need-returns-2
 returns-2 c =
     let p = c .before .before .before .before .before .before .before .pre in
-    guards-second _ _ _ (loaded _ (p .0) (c .before .before .before .if1 .left) .is) _ (c .before .if2 .taken) (c .is-protected .ensures)
+    guards-second _ _ _ (p .0) (c .before .before .before .if1 .left) _ (c .before .if2 .taken) (c .is-protected .ensures)
 
 is-protected-requires-2 : tie.Need-is-protected-requires-2
 is-protected-requires-2 c κs =
@@ -25,7 +25,7 @@ is-protected-requires-2 c κs =
 returns-3 : tie.Need-returns-3
 returns-3 c =
     let p = c .before .before .before .before .before .before .before .pre in
-    guards-first _ _ _ (loaded _ (p .0) (c .before .before .before .if1 .left) .is) _ (c .before .if2 .left) (c .is-protected2 .ensures)
+    guards-first _ _ _ (p .0) (c .before .before .before .if1 .left) _ (c .before .if2 .left) (c .is-protected2 .ensures)
 
 pub is-guarded-spec : {M : Type 1} → statement M
 is-guarded-spec =

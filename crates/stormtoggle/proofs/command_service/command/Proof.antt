@@ -12,13 +12,13 @@ refused-requires : tie.Need-refused-requires
 refused-requires c κs = search needs
 
 returns : tie.Need-returns
-returns c = short-so _ _ _ _ _ _ _ (c .before .before .is-too-short .ensures) (c .before .if1 .taken) _ (c .refused .ensures)
+returns c = short-so _ _ _ (c .before .before .is-too-short .ensures) (c .before .if2 .taken) _ (c .refused .ensures)
 
 refused-requires-2 : tie.Need-refused-requires-2
 refused-requires-2 c κs = search needs
 
 returns-2 : tie.Need-returns-2
-returns-2 c = length-so _ _ _ _ _ _ _ (c .before .before .before .is-too-short .ensures) (c .before .before .if1 .left) (c .before .if2 .taken) _ (c .refused2 .ensures)
+returns-2 c = length-so _ _ _ (c .before .before .is-too-short .ensures) (c .before .if2 .left) (c .before .before .before .if1 .taken) _ (c .refused2 .ensures)
 
 decode-requires : tie.Need-decode-requires
 decode-requires c κs = search needs
@@ -39,7 +39,7 @@ same-length-4 : tie.Need-same-length-4
 same-length-4 c = search needs
 
 returns-3 : tie.Need-returns-3
-returns-3 c = served-refused _ _ _ _ _ _ (c .before .before .before .before .before .before .before .before .before .before .before .before .before .before .before .before .if2 .left) _ (c .before .before .before .before .before .before .before .before .before .before .before .before .before .before .decode .ensures) _ _ _ _ (c .before .before .before .before .before .before .before .before .before .before .serve-lent .ensures) (c .if3 .taken)
+returns-3 c = served-refused _ _ (c .before .before .before .before .before .before .before .before .before .before .before .before .before .before .before .before .if1 .left) _ (c .before .before .before .before .before .before .before .before .before .before .before .before .before .before .decode .ensures) _ _ (c .before .before .before .before .before .before .before .before .before .before .serve-lent .ensures) (c .if3 .taken)
 
 encode-requires : tie.Need-encode-requires
 encode-requires c κs = search needs
@@ -57,7 +57,7 @@ same-length-8 : tie.Need-same-length-8
 same-length-8 c = search needs
 
 returns-4 : tie.Need-returns-4
-returns-4 c = served-done _ _ _ _ _ _ (c .before .before .before .before .before .before .before .before .before .before .before .before .before .before .before .before .before .before .before .before .if2 .left) _ (c .before .before .before .before .before .before .before .before .before .before .before .before .before .before .before .before .before .before .decode .ensures) _ _ _ _ (c .before .before .before .before .before .before .before .before .before .before .before .before .before .before .serve-lent .ensures) (c .before .before .before .before .if3 .left) _ (c .before .before .encode .ensures)
+returns-4 c = served-done _ _ (c .before .before .before .before .before .before .before .before .before .before .before .before .before .before .before .before .before .before .before .before .if1 .left) _ (c .before .before .before .before .before .before .before .before .before .before .before .before .before .before .before .before .before .before .decode .ensures) _ _ (c .before .before .before .before .before .before .before .before .before .before .before .before .before .before .serve-lent .ensures) (c .before .before .before .before .if3 .left) _ (c .before .before .encode .ensures)
 
 pub command-spec : {M : Type 1} → statement M
 command-spec =

@@ -24,7 +24,7 @@ same-length-4 : tie.Need-same-length-4
 same-length-4 c = search needs
 
 returns : tie.Need-returns
-returns c = returned-is _ _ _ _ _ _ _ (c .pack .ensures) (c .before .before .before .before .before .before .before .before .before .command .ensures)
+returns c = returned-is _ _ _ _ _ (c .pack .ensures) (c .before .before .before .before .before .before .before .before .before .command .ensures)
 
 pub stormtoggle-command-spec : {M : Type 1} → statement M
 stormtoggle-command-spec =
