@@ -22,7 +22,6 @@ use Rattle.codes.specs.declared.operation.Operation.{Operation}
 use Rattle.codes.specs.declared.operation.Operation.the-variants.{Write, WriteFilemarks, Erase}
 use Rattle.codes.specs.Fields.{fixedOf, transferOf, longOf}
 use Rattle.sense.specs.declared.Sense.{Sense}
-use Rattle.sense.specs.Sense.{noSense, volumeOverflow, told}
 use Rattle.transfer.specs.Transfer.{blocksOf, marksOf, fitting, putFrom}
 use Rattle.transfer.proofs.Down.{Down, AllKept, down, down-inside, marks-kept, blocks-kept, marks-of, blocks-of, fitting-bytes}
 use Rattle.commands.specs.declared.deeds.Left.{Left}
@@ -52,11 +51,11 @@ bare d t n m z = go (eqb m n) (zone t (d .position + m))
     go false b = refl
 
 module _ (d e : Drive) (t : List ℕ) (n m k : ℕ) (z : ℤ) (r : Left) (ee : e ≡ at d (d .position + m)) where
-  pub told-short : (m ≡ n → ⊥) → (x : Sense) → x ≡ told true false true false volumeOverflow 0x00 0x02 z → r ≡ leftBy (carrying k (checked e x)) → r ≡ leftBy (carrying k (ended d t n m z))
+  pub told-short : (m ≡ n → ⊥) → (x : Sense) → x ≡ overflowed z → r ≡ leftBy (carrying k (checked e x)) → r ≡ leftBy (carrying k (ended d t n m z))
   told-short h x ex q = q ∙ rw (ne-eqb m n h, ee, ex) refl
 
   module _ (h : m ≡ n) (b : Bool) (eb : b ≡ zone t (d .position + m)) where
-    pub told-zone : b ≡ true → (x : Sense) → x ≡ told true false true false noSense 0x00 0x02 (subℕ 0 0) → r ≡ leftBy (carrying k (checked e x)) → r ≡ leftBy (carrying k (ended d t n m z))
+    pub told-zone : b ≡ true → (x : Sense) → x ≡ warned → r ≡ leftBy (carrying k (checked e x)) → r ≡ leftBy (carrying k (ended d t n m z))
     told-zone hb x ex q = q ∙ rw (eq-eqb m n h, ← eb, hb, ee, ex) refl
 
     pub told-good : b ≡ false → r ≡ leftBy (carrying k (good e)) → r ≡ leftBy (carrying k (ended d t n m z))
