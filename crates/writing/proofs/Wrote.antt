@@ -2,20 +2,19 @@
 -- shows after them is the one that the definition computes.
 -- Assumes nothing.
 use Prim.Native.Nat.{ℕ, zero, suc, _+_, _*_, _^_, _<_, _≤_}
-use native.Mathlib.Nat.{mul-zero}
 use native.Mathlib.Omega.{arith}
 use mathlib.Core.Bool.{Bool, true, false, cond}
-use mathlib.Core.Path.{_≡_, refl, sym, ap, _∙_, subst}
+use mathlib.Core.Path.{_≡_, refl, sym, ap, _∙_}
 use mathlib.Core.List.{List, [], _∷_}
 use borrow.Author.Tests.{eq-eqb, ne-eqb, eqb-false, ltb-false}
 use lib.Dec.{eqb}
-use lib.IntN.{ℤ, subℕ, pos}
+use lib.IntN.{ℤ, subℕ}
 use lib.ListN.{length, take}
 use Rattle.objects.specs.Object.{Object, block, bytesIn, largestBlock}
 use Rattle.objects.specs.Events.{cut}
 use Rattle.image.specs.Image.{roomOf, zoneIn, count, endAt, room, zone, objects, sound}
 use Rattle.image.specs.Changes.{occur, occurs, cleared}
-use Rattle.image.proofs.Facts.{Sound, sound-parts, sound-of}
+use Rattle.image.proofs.Facts.{sound-parts, sound-of}
 use Rattle.image.proofs.Objects.{end-bytes}
 use Rattle.record.specs.declared.drive.Drive.{Drive}
 use Rattle.codes.specs.declared.operation.Operation.{Operation}
@@ -23,9 +22,9 @@ use Rattle.codes.specs.declared.operation.Operation.the-variants.{Write, WriteF
 use Rattle.codes.specs.Fields.{fixedOf, transferOf, longOf}
 use Rattle.sense.specs.declared.Sense.{Sense}
 use Rattle.transfer.specs.Transfer.{blocksOf, marksOf, fitting, putFrom}
-use Rattle.transfer.proofs.Down.{Down, AllKept, down, down-inside, marks-kept, blocks-kept, marks-of, blocks-of, fitting-bytes}
+use Rattle.transfer.proofs.Down.{Down, AllKept, down, down-inside, marks-kept}
 use Rattle.commands.specs.declared.deeds.Left.{Left}
-use Rattle.commands.specs.Act.{Deed, carrying, checked, good, at, warned, overflowed, offered, goesDown, wrote, writing, marking, act, eventsOf}
+use Rattle.commands.specs.Act.{Deed, carrying, checked, good, at, warned, overflowed, offered, goesDown, wrote, writing, marking, eventsOf}
 use Rattle.commands.specs.Tests.{bytesAsked, fieldError}
 use Rattle.commands.specs.Call.{seenOf, changed}
 use Rattle.commands.specs.Left.{leftBy}
