@@ -10,7 +10,7 @@ use lib.IntN.{subℕ}
 use lib.ListN.{length}
 use Rattle.answers.specs.Answers.{checkCondition}
 use Rattle.sense.specs.declared.Sense.{Sense}
-use Rattle.sense.specs.Sense.{illegalRequest, blankCheck, senseBytes, emptySense, told}
+use Rattle.sense.specs.Sense.{illegalRequest, senseBytes, emptySense, told}
 use Rattle.image.specs.Image.{count, objects}
 use Rattle.image.proofs.Objects.{length-objects}
 use Rattle.record.specs.declared.drive.Drive.{Drive}
@@ -18,7 +18,7 @@ use Rattle.record.specs.Record.{withSense}
 use Rattle.codes.specs.Fields.{changesPartition, partitionOf, objectOf, allocationOf}
 use Rattle.mode.specs.Mode.{wholeLength, listLengthKnown, listRight, newLength}
 use Rattle.commands.specs.declared.deeds.Left.{Left}
-use Rattle.commands.specs.Act.{carrying, good, checked, atPartition, withLength, targetOf, locating, selecting}
+use Rattle.commands.specs.Act.{carrying, good, checked, atPartition, withLength, endTold, targetOf, locating, selecting}
 use Rattle.commands.specs.Step.{statusOf, keptOf}
 use Rattle.commands.specs.Call.{seenOf}
 use Rattle.commands.specs.Left.{leftBy}
@@ -49,7 +49,7 @@ module _ (d : Drive) (cmd s : List ℕ) (k n m : ℕ) (ek : k ≡ targetOf d cmd
   unfolding locating seenOf
   located w a q = q ∙ rw (a, ek, en, objects-counted, le-leb (objectOf cmd) m (subst (λ (x : ℕ). x ≤ m) en w)) refl
 
-  pub stopped-short : (t : Sense) → t ≡ told false false false false blankCheck 0x00 0x05 (subℕ 0 0) → m < n → e ≡ atPartition d k m → r ≡ leftBy (carrying 0 (checked e t)) → r ≡ leftBy (locating d cmd (seenOf s))
+  pub stopped-short : (t : Sense) → t ≡ endTold false (seenOf s) (subℕ 0 0) → m < n → e ≡ atPartition d k m → r ≡ leftBy (carrying 0 (checked e t)) → r ≡ leftBy (locating d cmd (seenOf s))
   unfolding locating seenOf
   stopped-short t et w a q = q ∙ rw (a, ek, et, objects-counted, lt-leb (objectOf cmd) m (subst (λ (x : ℕ). m < x) en w)) refl
 

@@ -10,6 +10,7 @@ ghost use Rattle.commands.specs.Act.{carrying, locating, selecting, targ
 ghost use Rattle.commands.specs.Act.{good as Act·good, checked as Act·checked, at as Act·at};
 ghost use Rattle.commands.specs.Call.{seenOf};
 ghost use Rattle.commands.specs.Left.{leftBy};
+use crate::senses::end_told;
 use record::Drive;
 use sense::Sense;
 
@@ -96,17 +97,7 @@ pub fn locate(s: &[u8], d: Drive, cmd: &[u8]) -> Left
     if object <= count {
         return good(at_partition(d, target, object), 0);
     }
-    let told = sense::told(
-        false,
-        false,
-        false,
-        false,
-        sense::BLANK_CHECK,
-        0x00,
-        0x05,
-        0,
-        0,
-    );
+    let told = end_told(s, false, 0, 0);
     checked(at_partition(d, target, count), told, 0)
 }
 

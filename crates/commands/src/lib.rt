@@ -3,6 +3,7 @@ mod deeds;
 mod errors;
 mod kinds;
 mod replies;
+mod senses;
 
 pub use deeds::Left;
 pub use deeds::at;
@@ -21,3 +22,10 @@ pub use replies::mode_sense;
 pub use replies::read_block_limits;
 pub use replies::request_sense;
 pub use replies::unattended;
+pub use senses::beginning_met;
+pub use senses::end_met;
+pub use senses::end_told;
+pub use senses::filemark_met;
+pub use senses::odd_met;
+pub use senses::overflowed;
+pub use senses::warned;

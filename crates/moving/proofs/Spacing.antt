@@ -4,12 +4,13 @@ use Prim.Native.Nat.{ℕ, zero, suc, _+_, _-_, _^_, _≤_, _<_}
 use native.Mathlib.Nat.{not-suc-le-zero}
 use native.Mathlib.Omega.{arith}
 use mathlib.Core.Path.{_≡_, refl, ap, _∙_}
-use mathlib.Core.Bool.{true, cond}
+use mathlib.Core.Bool.{Bool, true, cond}
 use mathlib.Core.List.{List}
 use borrow.Author.Tests.{eq-eqb, ne-eqb}
 use lib.Dec.{eqb}
 use lib.IntN.{ℤ, pos, negsuc, negℤ, subℕ, _-ℤ_}
 use lib.ListN.{drop, length-drop}
+use Rattle.words.specs.Signed.{wrapped}
 use Rattle.words.proofs.Wraps.{subℕ-cases}
 use Rattle.objects.specs.Object.{Object}
 use Rattle.objects.specs.Movement.{Code, blocks, filemarks, done, marked, edge, Walk, walk, before, Move, ahead, astern, space, residue}
@@ -18,6 +19,8 @@ use Rattle.image.specs.Image.{count, sound, objects}
 use Rattle.image.proofs.Facts.{sound-parts}
 use Rattle.image.proofs.Objects.{length-objects}
 use Rattle.sense.specs.declared.Sense.{Sense}
+use Rattle.sense.specs.Sense.{told}
+use Rattle.sense.proofs.Packing.{told-signed}
 use Rattle.record.specs.declared.drive.Drive.{Drive}
 use Rattle.codes.specs.Fields.{spaceCodeOf, spaceCountOf}
 use Rattle.motion.specs.declared.Why.the-variants.{Done, Marked, Edge}
@@ -70,16 +73,19 @@ module _ (d f : Drive) (v : Seen) (k z : ℤ) (m : Move) (there : f ≡ at d (m 
     unfolding spaceTells
     leaves-beginning n h y e = q ∙ rw (there, e, ← rest, h, y) refl
 
--- ---- the residue: n less c, and -n less -c
+-- ---- the residue: n less c going on; going back -n less -c, by the difference of their encodings q and a
 
 rest-on : (n c : ℕ) → pos n -ℤ pos c ≡ subℕ n c
 rest-on n zero = subℕ-cases (λ z. pos n -ℤ pos zero ≡ z) n 0 (λ h. absurd (not-suc-le-zero h)) (λ h. ap pos (let e : n + 0 ≡ n - 0 = omega arith in e))
 rest-on n (suc c) = refl
 
-rest-back : (n c : ℕ) → 0 < n → negℤ (pos n) -ℤ negℤ (pos c) ≡ subℕ c n
-rest-back zero c h = absurd (not-suc-le-zero h)
-rest-back (suc n) zero h = refl
-rest-back (suc n) (suc c) h = refl
+minus : (n : ℕ) → subℕ 0 n ≡ negℤ (pos n)
+minus zero = refl
+minus (suc n) = subℕ-cases (λ z. z ≡ negsuc n) 0 (suc n) (λ h. ap negsuc (let e : suc n - 1 ≡ n = omega arith in e)) (λ h. absurd (not-suc-le-zero h))
+
+told-back : (n c q a : ℕ) → q ≡ wrapped (subℕ 0 n) → a ≡ wrapped (subℕ 0 c) → (f e i : Bool) (key asc ascq : ℕ)
+    → told true f e i key asc ascq (subℕ q a) ≡ told true f e i key asc ascq (negℤ (pos n) -ℤ negℤ (pos c))
+told-back n c q a eq ea f e i key asc ascq = rw (eq ∙ ap wrapped (minus n), ea ∙ ap wrapped (minus c)) (told-signed true f e i key asc ascq (negℤ (pos n)) (negℤ (pos c)))
 
 -- ---- on: w is the walk over what lies from the position on
 
@@ -121,23 +127,23 @@ module _ (d : Drive) (s : List ℕ) (c : Code) (n : ℕ) (asked : 0 < n) (w : Wa
   went-back : astern (d .position) (walkOf w) ≡ space c (negℤ (pos n)) (d .position) (objects s)
   went-back = ap (astern (d .position)) e ∙ astern-is c n (d .position) (objects s) asked
 
-  rest-is-back : residue (negℤ (pos n)) (astern (d .position) (walkOf w)) ≡ subℕ (w .counted) n
+  rest-is-back : residue (negℤ (pos n)) (astern (d .position) (walkOf w)) ≡ negℤ (pos n) -ℤ negℤ (pos (w .counted))
   unfolding residue astern
-  rest-is-back = rest-back n (w .counted) asked
+  rest-is-back = refl
 
   module _ (f : Drive) (there : f ≡ at d (d .position - w .crossed)) (r : Left) where
     pub back-done : w .why ≡ Done → r ≡ leftBy (carrying 0 (good f)) → r ≡ leftBy (moved d (seenOf s) (negℤ (pos n)) (space c (negℤ (pos n)) (d .position) (objects s)))
     unfolding astern
     back-done y q = rw (← went-back) (leaves-good d f (seenOf s) (negℤ (pos n)) _ (astern (d .position) (walkOf w)) there rest-is-back r (ap whyOf y) q)
 
-    module _ (t : Sense) where
-      pub back-marked : w .why ≡ Marked → t ≡ filemarkMet (subℕ (w .counted) n) → r ≡ leftBy (carrying 0 (checked f t)) → r ≡ leftBy (moved d (seenOf s) (negℤ (pos n)) (space c (negℤ (pos n)) (d .position) (objects s)))
+    module _ (q a : ℕ) (eq : q ≡ wrapped (subℕ 0 n)) (ea : a ≡ wrapped (subℕ 0 (w .counted))) (t : Sense) (left : r ≡ leftBy (carrying 0 (checked f t))) where
+      pub back-marked : w .why ≡ Marked → t ≡ filemarkMet (subℕ q a) → r ≡ leftBy (moved d (seenOf s) (negℤ (pos n)) (space c (negℤ (pos n)) (d .position) (objects s)))
       unfolding astern
-      back-marked y et q = rw (← went-back) (leaves-filemark d f (seenOf s) (negℤ (pos n)) _ (astern (d .position) (walkOf w)) there rest-is-back r t q (ap whyOf y) et)
+      back-marked y et = rw (← went-back) (leaves-filemark d f (seenOf s) (negℤ (pos n)) _ (astern (d .position) (walkOf w)) there rest-is-back r t left (ap whyOf y) (et ∙ told-back n (w .counted) q a eq ea _ _ _ _ _ _))
 
-      pub back-edge : w .why ≡ Edge → t ≡ beginningMet (subℕ (w .counted) n) → r ≡ leftBy (carrying 0 (checked f t)) → r ≡ leftBy (moved d (seenOf s) (negℤ (pos n)) (space c (negℤ (pos n)) (d .position) (objects s)))
+      pub back-edge : w .why ≡ Edge → t ≡ beginningMet (subℕ q a) → r ≡ leftBy (moved d (seenOf s) (negℤ (pos n)) (space c (negℤ (pos n)) (d .position) (objects s)))
       unfolding astern
-      back-edge y et q = rw (← went-back) (leaves-beginning d f (seenOf s) (negℤ (pos n)) _ (astern (d .position) (walkOf w)) there rest-is-back r t q (n - 1) (negated n asked) (ap whyOf y) et)
+      back-edge y et = rw (← went-back) (leaves-beginning d f (seenOf s) (negℤ (pos n)) _ (astern (d .position) (walkOf w)) there rest-is-back r t left (n - 1) (negated n asked) (ap whyOf y) (et ∙ told-back n (w .counted) q a eq ea _ _ _ _ _ _))
 
 -- ---- SPACE: to the end, or by the count k
 

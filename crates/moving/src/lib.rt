@@ -1,34 +1,26 @@
 // SPACE: the walk over blocks or filemarks, where it ends, and what it tells.
 ghost use mathlib.Core.Path.{_≡_};
-ghost use mathlib.Core.Bool.{true, false, cond};
+ghost use mathlib.Core.Bool.{true, cond};
 ghost use Prim.Native.Nat.{_≤_, _<_};
 ghost use lib.Dec.{eqb};
-ghost use lib.IntN.{pos, negℤ, natAbs, subℕ};
+ghost use lib.IntN.{pos, negℤ, natAbs};
 ghost use lib.ListN.{length, drop};
 ghost use Rattle.objects.specs.Movement.{blocks, filemarks, walk, before};
 ghost use Rattle.objects.specs.Movement.{space as Movement·space};
 ghost use Rattle.image.specs.Image.{count, sound, objects};
-ghost use Rattle.sense.specs.Sense.{blankCheck};
-ghost use Rattle.sense.specs.Sense.{told as Sense·told};
 ghost use Rattle.motion.specs.Motion.{walkOf};
-ghost use Rattle.commands.specs.Act.{moved, filemarkMet, beginningMet, overBlocks, spacing};
+ghost use Rattle.commands.specs.Act.{moved, overBlocks, spacing};
 ghost use Rattle.commands.specs.Call.{seenOf};
 ghost use Rattle.commands.specs.Left.{leftBy};
 use commands::Left;
 use motion::Walked;
 use motion::Why;
 use record::Drive;
-use sense::Sense;
 
 // The codes: any other than these two counts filemarks.
 const OVER_BLOCKS: u8 = 0;
 
 const TO_END: u8 = 3;
-
-// EOM with the beginning and, by a house rule, not with the end of data.
-const EOM_AT_END: bool = false;
-
-const EOM_AT_BEGINNING: bool = true;
 
 // The walk on from p over n of what the code counts.
 fn walk_on(s: &[u8], code: u8, p: u32, n: u32) -> Walked
@@ -52,57 +44,6 @@ fn walk_back(s: &[u8], code: u8, p: u32, n: u32) -> Walked
     motion::filemarks_back(s, p, n)
 }
 
-// What is told of a filemark met, with the residue request - actual.
-fn filemark_met(request: u32, actual: u32) -> Sense
-    ensures { λ r. ⌜ r ≡ filemarkMet (subℕ request actual) ⌝ }
-{
-    sense::told(
-        true,
-        true,
-        false,
-        false,
-        sense::NO_SENSE,
-        0x00,
-        0x01,
-        request,
-        actual,
-    )
-}
-
-// What is told of the end of data.
-fn end_met(request: u32, actual: u32) -> Sense
-    ensures { λ r. ⌜ r ≡ Sense·told true false false false blankCheck 0x00 0x05 (subℕ request actual) ⌝ }
-{
-    sense::told(
-        true,
-        false,
-        EOM_AT_END,
-        false,
-        sense::BLANK_CHECK,
-        0x00,
-        0x05,
-        request,
-        actual,
-    )
-}
-
-// What is told of the beginning.
-fn beginning_met(request: u32, actual: u32) -> Sense
-    ensures { λ r. ⌜ r ≡ beginningMet (subℕ request actual) ⌝ }
-{
-    sense::told(
-        true,
-        false,
-        EOM_AT_BEGINNING,
-        false,
-        sense::NO_SENSE,
-        0x00,
-        0x04,
-        request,
-        actual,
-    )
-}
-
 // SPACE by the count n: the residue is n - counted.
 fn space_on(s: &[u8], d: Drive, code: u8, n: u32) -> Left
     requires { ⌜ (sound (now s) ≡ true) × (d .position ≤ count (now s)) ⌝ }
@@ -113,12 +54,12 @@ fn space_on(s: &[u8], d: Drive, code: u8, n: u32) -> Left
     let gone = commands::at(d, d.position + w.crossed);
     match why {
         Why::Done => commands::good(gone, 0),
-        Why::Marked => commands::checked(gone, filemark_met(n, w.counted), 0),
-        Why::Edge => commands::checked(gone, end_met(n, w.counted), 0),
+        Why::Marked => commands::checked(gone, commands::filemark_met(n, w.counted), 0),
+        Why::Edge => commands::checked(gone, commands::end_met(s, n, w.counted), 0),
     }
 }
 
-// SPACE by the count -n: the residue is -n less -counted, so counted is the request and n the actual.
+// SPACE by the count -n: the residue is -n less -counted, each in two's complement.
 fn space_back(s: &[u8], d: Drive, code: u8, n: u32) -> Left
     requires { ⌜ (sound (now s) ≡ true) × (d .position ≤ count (now s)) × (0 < n) ⌝ }
     ensures { λ r. ⌜ r ≡ leftBy (moved d (seenOf (now (s .entry))) (negℤ (pos n)) (Movement·space (cond (eqb code overBlocks) blocks filemarks) (negℤ (pos n)) (d .position) (objects (now (s .entry))))) ⌝ }
@@ -126,10 +67,12 @@ fn space_back(s: &[u8], d: Drive, code: u8, n: u32) -> Left
     let w = walk_back(s, code, d.position, n);
     let why = w.why;
     let gone = commands::at(d, d.position - w.crossed);
+    let request = words::difference(0, n);
+    let actual = words::difference(0, w.counted);
     match why {
         Why::Done => commands::good(gone, 0),
-        Why::Marked => commands::checked(gone, filemark_met(w.counted, n), 0),
-        Why::Edge => commands::checked(gone, beginning_met(w.counted, n), 0),
+        Why::Marked => commands::checked(gone, commands::filemark_met(request, actual), 0),
+        Why::Edge => commands::checked(gone, commands::beginning_met(request, actual), 0),
     }
 }
 

@@ -16,7 +16,6 @@ use Rattle.words.specs.Words.{over, limited}
 use Rattle.words.proofs.Laws.{over-nil, part-is}
 use Rattle.words.proofs.Wraps.{subℕ-cases}
 use Rattle.sense.specs.declared.Sense.{Sense}
-use Rattle.sense.specs.Sense.{noSense, blankCheck, told}
 use Rattle.objects.specs.Object.{Object, filemark, block}
 use Rattle.objects.proofs.Standing.{get-past}
 use Rattle.image.specs.Image.{count, entry, topBit, endAt, objectAt, objects, sound}
@@ -28,7 +27,7 @@ use Rattle.codes.specs.Fields.{fixedOf, siliOf, transferOf}
 use Rattle.commands.specs.declared.deeds.Left.{Left}
 use Rattle.transfer.specs.Transfer.{runOf}
 use Rattle.transfer.proofs.Reading.{lies}
-use Rattle.commands.specs.Act.{Seen, Deed, carrying, good, checked, at, hidden, readBlock, readVariable, readRun, reading}
+use Rattle.commands.specs.Act.{Seen, Deed, carrying, good, checked, at, filemarkMet, endMet, oddMet, hidden, readBlock, readVariable, readRun, reading}
 use Rattle.commands.specs.Tests.{bytesAsked, fieldError}
 use Rattle.commands.specs.Call.{seenOf}
 use Rattle.commands.specs.Left.{leftBy}
@@ -70,7 +69,7 @@ module _ (d e : Drive) (cmd b : List ℕ) (n k : ℕ) (en : n ≡ transferOf cmd
     pub block-hidden : t ≡ true → r ≡ leftBy (carrying k (good e)) → r ≡ leftBy (readBlock d cmd b)
     block-hidden ht q = q ∙ rw (a, ek, ← en, add-one (d .position), ne-eqb (length b) n h, ← et, ht) refl
 
-    pub block-odd : t ≡ false → (o : Sense) → o ≡ told true false false true noSense 0x00 0x00 (subℕ n (length b)) → r ≡ leftBy (carrying k (checked e o)) → r ≡ leftBy (readBlock d cmd b)
+    pub block-odd : t ≡ false → (o : Sense) → o ≡ oddMet (subℕ n (length b)) → r ≡ leftBy (carrying k (checked e o)) → r ≡ leftBy (readBlock d cmd b)
     block-odd ht o eo q = q ∙ rw (a, ek, ← en, add-one (d .position), ne-eqb (length b) n h, ← et, ht, eo) refl
 
 -- ---- what lies at a position
@@ -107,12 +106,12 @@ pub done-as : (x y : Deed) → y ≡ x → (r : Left) (a b : List ℕ) → (r �
 done-as x y e r a b h = rw e h
 
 module _ (d : Drive) (cmd s x : List ℕ) (n : ℕ) (v : Seen) (en : n ≡ transferOf cmd) (r : Left) where
-  pub meets-end : count s ≤ d .position → (t : Sense) → t ≡ told true false false false blankCheck 0x00 0x05 (subℕ n 0) → r ≡ leftBy (carrying 0 (checked d t)) → (r ≡ leftBy (readVariable d cmd v (getElem? (objects s) (d .position)))) × (x ≡ over x 0 (readVariable d cmd v (getElem? (objects s) (d .position)) .received))
+  pub meets-end : count s ≤ d .position → (t : Sense) → t ≡ endMet v (subℕ n 0) → r ≡ leftBy (carrying 0 (checked d t)) → (r ≡ leftBy (readVariable d cmd v (getElem? (objects s) (d .position)))) × (x ≡ over x 0 (readVariable d cmd v (getElem? (objects s) (d .position)) .received))
   unfolding readVariable
   meets-end h t et q = rw (past s (d .position) h) (q ∙ rw (et, all-left n, en) refl, sym (over-nil x 0))
 
   module _ (h : d .position < count s) (m : Bool) (em : m ≡ topBit (entry s (d .position))) where
-    pub meets-filemark : m ≡ true → (e : Drive) → e ≡ at d (d .position + 1) → (t : Sense) → t ≡ told true true false false noSense 0x00 0x01 (subℕ n 0) → r ≡ leftBy (carrying 0 (checked e t)) → (r ≡ leftBy (readVariable d cmd v (getElem? (objects s) (d .position)))) × (x ≡ over x 0 (readVariable d cmd v (getElem? (objects s) (d .position)) .received))
+    pub meets-filemark : m ≡ true → (e : Drive) → e ≡ at d (d .position + 1) → (t : Sense) → t ≡ filemarkMet (subℕ n 0) → r ≡ leftBy (carrying 0 (checked e t)) → (r ≡ leftBy (readVariable d cmd v (getElem? (objects s) (d .position)))) × (x ≡ over x 0 (readVariable d cmd v (getElem? (objects s) (d .position)) .received))
     unfolding readVariable
     meets-filemark hm e a t et q = rw (filemark-there s (d .position) h (sym em ∙ hm)) (q ∙ rw (a, et, all-left n, en, add-one (d .position)) refl, sym (over-nil x 0))
 

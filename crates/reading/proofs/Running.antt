@@ -8,12 +8,10 @@ use mathlib.Core.Bool.{Bool, true, false}
 use mathlib.Core.List.{List, [], _∷_}
 use borrow.Author.Tests.{eqb-true}
 use lib.Dec.{eqb}
-use lib.IntN.{ℤ, subℕ}
+use lib.IntN.{subℕ}
 use lib.ListN.{length, take, drop, length-append, length-drop, take-append-drop}
 use lib.Seq.{take-all}
 use Rattle.sense.specs.declared.Sense.{Sense}
-use Rattle.sense.specs.Sense.{noSense, blankCheck}
-use Rattle.sense.specs.Sense as S
 use Rattle.objects.specs.Object.{Object, filemark, block, bytesIn}
 use Rattle.objects.proofs.Count.{bytes-append}
 use Rattle.image.specs.Image.{count, sound, objects}
@@ -22,11 +20,10 @@ use Rattle.image.proofs.Objects.{length-objects, end-bytes}
 use Rattle.record.specs.declared.drive.Drive.{Drive}
 use Rattle.transfer.specs.declared.Why.the-variants.{Whole, OddLength, AtFilemark, AtEnd}
 use Rattle.transfer.specs.declared.Blocks.{Blocks}
-use Rattle.transfer.specs.Transfer.{Ended, whole, oddLength, atFilemark, atEnd, Run, halted, after, runOf}
-use Rattle.transfer.specs.Runs.{whyOf, told}
+use Rattle.transfer.specs.Transfer.{oddLength, Run, halted, after, runOf}
+use Rattle.transfer.specs.Runs.{told}
 use Rattle.commands.specs.declared.deeds.Left.{Left}
-use Rattle.commands.specs.Act.{Seen, carrying, good, checked, at, runTells, readRun}
-use Rattle.commands.specs.Call.{nothing}
+use Rattle.commands.specs.Act.{Seen, carrying, good, checked, at, filemarkMet, endMet, oddMet, runTells, readRun}
 use Rattle.commands.specs.Left.{leftBy}
 
 -- ---- how far a run reaches
@@ -79,34 +76,26 @@ module _ (s : List ℕ) (h : sound s ≡ true) (p b n : ℕ) (g : p ≤ count s)
 
 -- ---- what it leaves, case by case
 
-module _ (d e : Drive) (n k : ℕ) (run : Blocks) (a : e ≡ at d (d .position + run .crossed)) (r : Left) where
-  pub leaves-whole : run .why ≡ Whole → r ≡ leftBy (carrying k (good e)) → r ≡ leftBy (carrying k (readRun d nothing n (told run [])))
+module _ (d e : Drive) (v : Seen) (n k : ℕ) (run : Blocks) (a : e ≡ at d (d .position + run .crossed)) (r : Left) where
+  pub leaves-whole : run .why ≡ Whole → r ≡ leftBy (carrying k (good e)) → r ≡ leftBy (carrying k (readRun d v n (told run [])))
   unfolding runTells
   leaves-whole w q = q ∙ rw (a, w) refl
 
-  pub leaves-odd : run .why ≡ OddLength → (t : Sense) → t ≡ S.told true false false true noSense 0x00 0x00 (subℕ n (run .blocks)) → r ≡ leftBy (carrying k (checked e t)) → r ≡ leftBy (carrying k (readRun d nothing n (told run [])))
+  pub leaves-odd : run .why ≡ OddLength → (t : Sense) → t ≡ oddMet (subℕ n (run .blocks)) → r ≡ leftBy (carrying k (checked e t)) → r ≡ leftBy (carrying k (readRun d v n (told run [])))
   unfolding runTells
   leaves-odd w t et q = q ∙ rw (a, w, et) refl
 
-  pub leaves-marked : run .why ≡ AtFilemark → (t : Sense) → t ≡ S.told true true false false noSense 0x00 0x01 (subℕ n (run .blocks)) → r ≡ leftBy (carrying k (checked e t)) → r ≡ leftBy (carrying k (readRun d nothing n (told run [])))
+  pub leaves-marked : run .why ≡ AtFilemark → (t : Sense) → t ≡ filemarkMet (subℕ n (run .blocks)) → r ≡ leftBy (carrying k (checked e t)) → r ≡ leftBy (carrying k (readRun d v n (told run [])))
   unfolding runTells
   leaves-marked w t et q = q ∙ rw (a, w, et) refl
 
-  pub leaves-ended : run .why ≡ AtEnd → (t : Sense) → t ≡ S.told true false false false blankCheck 0x00 0x05 (subℕ n (run .blocks)) → r ≡ leftBy (carrying k (checked e t)) → r ≡ leftBy (carrying k (readRun d nothing n (told run [])))
+  pub leaves-ended : run .why ≡ AtEnd → (t : Sense) → t ≡ endMet v (subℕ n (run .blocks)) → r ≡ leftBy (carrying k (checked e t)) → r ≡ leftBy (carrying k (readRun d v n (told run [])))
   unfolding runTells
   leaves-ended w t et q = q ∙ rw (a, w, et) refl
 
--- why a run ended is told alike whatever was seen
-tells-alike : (v w : Seen) (e : Ended) (z : ℤ) → runTells v e z ≡ runTells w e z
-unfolding runTells
-tells-alike v w whole z = refl
-tells-alike v w oddLength z = refl
-tells-alike v w atFilemark z = refl
-tells-alike v w atEnd z = refl
-
-pub run-left : (d : Drive) (v : Seen) (n b : ℕ) (xs : List Object) (run : Blocks) → told run (runOf b n xs .bytes) ≡ runOf b n xs → (r : Left) → r ≡ leftBy (carrying (run .blocks * b) (readRun d nothing n (told run []))) → r ≡ leftBy (readRun d v n (runOf b n xs))
+pub run-left : (d : Drive) (v : Seen) (n b : ℕ) (xs : List Object) (run : Blocks) → told run (runOf b n xs .bytes) ≡ runOf b n xs → (r : Left) → r ≡ leftBy (carrying (run .blocks * b) (readRun d v n (told run []))) → r ≡ leftBy (readRun d v n (runOf b n xs))
 run-left d v n b xs run e r q =
     let k : run .blocks * b ≡ length (runOf b n xs .bytes) = ap (λ (x : Run). x .blocks * b) e ∙ sym (reaches b n xs .many) in
     q
-    ∙ rw (tells-alike nothing v (whyOf (run .why)) (subℕ n (run .blocks)), k) refl
+    ∙ rw k refl
     ∙ ap (λ (x : Run). leftBy (readRun d v n x)) e

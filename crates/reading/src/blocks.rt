@@ -12,17 +12,17 @@ ghost use Rattle.transfer.specs.Transfer.{runOf};
 ghost use Rattle.transfer.specs.Runs.{told};
 ghost use Rattle.commands.specs.Act.{hidden, carrying, readBlock, readVariable, readRun, reading};
 ghost use Rattle.commands.specs.Tests.{bytesAsked, fieldError};
-ghost use Rattle.commands.specs.Call.{nothing, seenOf};
+ghost use Rattle.commands.specs.Call.{seenOf};
 ghost use Rattle.commands.specs.Left.{leftBy};
 use commands::Left;
 use record::Drive;
 use transfer::Blocks;
 use transfer::Why;
 
-// What a run of blocks leaves, n having been asked for: the drive behind what was crossed, and why it ended.
-fn run_leaves(d: Drive, n: u32, run: Blocks, carried: u32) -> Left
-    requires { ⌜ d .position + run .crossed < 2 ^ 32 ⌝ }
-    ensures { λ r. ⌜ r ≡ leftBy (carrying carried (readRun d nothing n (told run []))) ⌝ }
+// What a run of blocks of the partition s leaves, n having been asked for: the drive behind what was crossed, and why it ended.
+fn run_leaves(s: &[u8], d: Drive, n: u32, run: Blocks, carried: u32) -> Left
+    requires { ⌜ (sound (now s) ≡ true) × (d .position + run .crossed < 2 ^ 32) ⌝ }
+    ensures { λ r. ⌜ r ≡ leftBy (carrying carried (readRun d (seenOf (now (s .entry))) n (told run []))) ⌝ }
 {
     let e = commands::at(d, d.position + run.crossed);
     let blocks = run.blocks;
@@ -30,49 +30,9 @@ fn run_leaves(d: Drive, n: u32, run: Blocks, carried: u32) -> Left
     match why {
         Why::Whole => commands::good(e, carried),
         // Crossed, but not among the blocks that were read.
-        Why::OddLength => {
-            let odd = sense::told(
-                true,
-                false,
-                false,
-                true,
-                sense::NO_SENSE,
-                0x00,
-                0x00,
-                n,
-                blocks,
-            );
-            commands::checked(e, odd, carried)
-        }
-        Why::AtFilemark => {
-            let filemark = sense::told(
-                true,
-                true,
-                false,
-                false,
-                sense::NO_SENSE,
-                0x00,
-                0x01,
-                n,
-                blocks,
-            );
-            commands::checked(e, filemark, carried)
-        }
-        // EOM 0: a house rule.
-        Why::AtEnd => {
-            let end = sense::told(
-                true,
-                false,
-                false,
-                false,
-                sense::BLANK_CHECK,
-                0x00,
-                0x05,
-                n,
-                blocks,
-            );
-            commands::checked(e, end, carried)
-        }
+        Why::OddLength => commands::checked(e, commands::odd_met(n, blocks), carried),
+        Why::AtFilemark => commands::checked(e, commands::filemark_met(n, blocks), carried),
+        Why::AtEnd => commands::checked(e, commands::end_met(s, n, blocks), carried),
     }
 }
 
@@ -82,7 +42,7 @@ fn read_fixed(s: &[u8], d: Drive, n: u32, received: &mut [u8]) -> Left
     ensures { λ r. ⌜ (r ≡ leftBy (readRun d (seenOf (now (s .entry))) n (runOf (d .«block_length») n (drop (d .position) (objects (now (s .entry))))))) × (now (received .exit) ≡ over (now (received .entry)) 0 (runOf (d .«block_length») n (drop (d .position) (objects (now (s .entry)))) .bytes)) ⌝ }
 {
     let run = transfer::read_blocks(s, d.position, n, d.block_length, received);
-    run_leaves(d, n, run, run.blocks * d.block_length)
+    run_leaves(s, d, n, run, run.blocks * d.block_length)
 }
 
 // Whether SILI hides that a block has this size, and not the n bytes asked for.
@@ -113,18 +73,7 @@ fn read_block(d: Drive, cmd: &[u8], n: u32, block: &[u8], received: &mut [u8]) -
     if is_hidden(d, cmd, n, size) {
         return commands::good(e, carried);
     }
-    let odd = sense::told(
-        true,
-        false,
-        false,
-        true,
-        sense::NO_SENSE,
-        0x00,
-        0x00,
-        n,
-        size,
-    );
-    commands::checked(e, odd, carried)
+    commands::checked(e, commands::odd_met(n, size), carried)
 }
 
 // READ without FIXED, of n bytes: what lies at the position decides.
@@ -134,22 +83,11 @@ fn read_variable(s: &[u8], d: Drive, cmd: &[u8], n: u32, received: &mut [u8]) ->
 {
     let p = d.position;
     if image::count_of(s) <= p {
-        let end = sense::told(
-            true,
-            false,
-            false,
-            false,
-            sense::BLANK_CHECK,
-            0x00,
-            0x05,
-            n,
-            0,
-        );
-        return commands::checked(d, end, 0);
+        return commands::checked(d, commands::end_met(s, n, 0), 0);
     }
     let i = p as usize;
     if image::is_filemark(s, i) {
-        let filemark = sense::told(true, true, false, false, sense::NO_SENSE, 0x00, 0x01, n, 0);
+        let filemark = commands::filemark_met(n, 0);
         return commands::checked(commands::at(d, p + 1), filemark, 0);
     }
     let from = image::end_at(s, i) as usize;

@@ -2,31 +2,29 @@
 -- shows after them is the one that the definition computes.
 -- Assumes nothing.
 use Prim.Native.Nat.{ℕ, zero, suc, _+_, _*_, _^_, _<_, _≤_}
-use native.Mathlib.Nat.{mul-zero}
 use native.Mathlib.Omega.{arith}
 use mathlib.Core.Bool.{Bool, true, false, cond}
-use mathlib.Core.Path.{_≡_, refl, sym, ap, _∙_, subst}
+use mathlib.Core.Path.{_≡_, refl, sym, ap, _∙_}
 use mathlib.Core.List.{List, [], _∷_}
 use borrow.Author.Tests.{eq-eqb, ne-eqb, eqb-false, ltb-false}
 use lib.Dec.{eqb}
-use lib.IntN.{ℤ, subℕ, pos}
+use lib.IntN.{ℤ, subℕ}
 use lib.ListN.{length, take}
 use Rattle.objects.specs.Object.{Object, block, bytesIn, largestBlock}
 use Rattle.objects.specs.Events.{cut}
 use Rattle.image.specs.Image.{roomOf, zoneIn, count, endAt, room, zone, objects, sound}
 use Rattle.image.specs.Changes.{occur, occurs, cleared}
-use Rattle.image.proofs.Facts.{Sound, sound-parts, sound-of}
+use Rattle.image.proofs.Facts.{sound-parts, sound-of}
 use Rattle.image.proofs.Objects.{end-bytes}
 use Rattle.record.specs.declared.drive.Drive.{Drive}
 use Rattle.codes.specs.declared.operation.Operation.{Operation}
 use Rattle.codes.specs.declared.operation.Operation.the-variants.{Write, WriteFilemarks, Erase}
 use Rattle.codes.specs.Fields.{fixedOf, transferOf, longOf}
 use Rattle.sense.specs.declared.Sense.{Sense}
-use Rattle.sense.specs.Sense.{noSense, volumeOverflow, told}
 use Rattle.transfer.specs.Transfer.{blocksOf, marksOf, fitting, putFrom}
-use Rattle.transfer.proofs.Down.{Down, AllKept, down, down-inside, marks-kept, blocks-kept, marks-of, blocks-of, fitting-bytes}
+use Rattle.transfer.proofs.Down.{Down, AllKept, down, down-inside, marks-kept}
 use Rattle.commands.specs.declared.deeds.Left.{Left}
-use Rattle.commands.specs.Act.{Deed, carrying, checked, good, at, warned, overflowed, offered, goesDown, wrote, writing, marking, act, eventsOf}
+use Rattle.commands.specs.Act.{Deed, carrying, checked, good, at, warned, overflowed, offered, goesDown, wrote, writing, marking, eventsOf}
 use Rattle.commands.specs.Step.{acted}
 use Rattle.commands.specs.Call.{seenOf, laidOut}
 use Rattle.commands.specs.Left.{leftBy}
@@ -52,11 +50,11 @@ bare d t n m z = go (eqb m n) (zone t (d .position + m))
     go false b = refl
 
 module _ (d e : Drive) (t : List ℕ) (n m k : ℕ) (z : ℤ) (r : Left) (ee : e ≡ at d (d .position + m)) where
-  pub told-short : (m ≡ n → ⊥) → (x : Sense) → x ≡ told true false true false volumeOverflow 0x00 0x02 z → r ≡ leftBy (carrying k (checked e x)) → r ≡ leftBy (carrying k (ended d t n m z))
+  pub told-short : (m ≡ n → ⊥) → (x : Sense) → x ≡ overflowed z → r ≡ leftBy (carrying k (checked e x)) → r ≡ leftBy (carrying k (ended d t n m z))
   told-short h x ex q = q ∙ rw (ne-eqb m n h, ee, ex) refl
 
   module _ (h : m ≡ n) (b : Bool) (eb : b ≡ zone t (d .position + m)) where
-    pub told-zone : b ≡ true → (x : Sense) → x ≡ told true false true false noSense 0x00 0x02 (subℕ 0 0) → r ≡ leftBy (carrying k (checked e x)) → r ≡ leftBy (carrying k (ended d t n m z))
+    pub told-zone : b ≡ true → (x : Sense) → x ≡ warned → r ≡ leftBy (carrying k (checked e x)) → r ≡ leftBy (carrying k (ended d t n m z))
     told-zone hb x ex q = q ∙ rw (eq-eqb m n h, ← eb, hb, ee, ex) refl
 
     pub told-good : b ≡ false → r ≡ leftBy (carrying k (good e)) → r ≡ leftBy (carrying k (ended d t n m z))

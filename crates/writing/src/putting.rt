@@ -25,25 +25,14 @@ fn wrote(s: &[u8], d: Drive, n: u32, put: u32, request: u32, actual: u32, carrie
         (cond (zone (now (s .entry)) (d .position + put)) (checked (at d (d .position + put)) warned) (good (at d (d .position + put))))
         (checked (at d (d .position + put)) (overflowed (subℕ request actual))))) ⌝ }
 {
-    let there = d.position + put;
+    let from = d.position;
+    let there = from + put;
     let e = commands::at(d, there);
     if put != n {
-        let told = sense::told(
-            true,
-            false,
-            true,
-            false,
-            sense::VOLUME_OVERFLOW,
-            0x00,
-            0x02,
-            request,
-            actual,
-        );
-        return commands::checked(e, told, carried);
+        return commands::checked(e, commands::overflowed(request, actual), carried);
     }
     if image::in_zone(s, there as usize) {
-        let told = sense::told(true, false, true, false, sense::NO_SENSE, 0x00, 0x02, 0, 0);
-        return commands::checked(e, told, carried);
+        return commands::checked(e, commands::warned(), carried);
     }
     commands::good(e, carried)
 }
@@ -72,10 +61,10 @@ pub fn write_filemarks(s: &mut [u8], d: Drive, cmd: &[u8]) -> Left
     requires { ⌜ (sound (now s) ≡ true) × (d .position ≤ count (now s)) × (5 ≤ length (now cmd)) ⌝ }
     ensures { λ r. ⌜ (r ≡ leftBy (marking d (now (cmd .entry)) [] (seenOf (now (s .entry))))) × (now (s .exit) ≡ occurs (eventsOf WriteFilemarks d (now (cmd .entry)) [] (seenOf (now (s .entry)))) (now (s .entry))) ⌝ }
 {
-    let n = codes::transfer(cmd);
-    if n == 0 {
+    let marks = codes::transfer(cmd);
+    if marks == 0 {
         return commands::good(d, 0);
     }
-    let put = transfer::put_filemarks(s, d.position, n);
-    wrote(s, d, n, put, n, put, 0)
+    let put = transfer::put_filemarks(s, d.position, marks);
+    wrote(s, d, marks, put, marks, put, 0)
 }

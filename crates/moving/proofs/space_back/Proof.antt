@@ -14,6 +14,12 @@ sub-at c = stays-above _ _ _ _ _ (c .before .before .walk-back .ensures)
 at-requires : tie.Need-at-requires
 at-requires c κs = search needs
 
+difference-requires : tie.Need-difference-requires
+difference-requires c κs = search needs
+
+difference-requires-2 : tie.Need-difference-requires-2
+difference-requires-2 c κs = search needs
+
 enum-told : tie.Need-enum-told
 enum-told c = search needs
 
@@ -39,13 +45,13 @@ checked-requires-2 : tie.Need-checked-requires-2
 checked-requires-2 c κs = search needs
 
 returns : tie.Need-returns
-returns c = back-done _ _ _ _ (c .before .before .before .before .before .before .before .before .pre .2) _ (c .before .before .before .before .before .before .walk-back .ensures) _ (c .before .before .before .at .ensures) _ (c .before .enum-told .given .1) (c .good2 .ensures)
+returns c = back-done _ _ _ _ (c .before .before .before .before .before .before .before .before .before .before .pre .2) _ (c .before .before .before .before .before .before .before .before .walk-back .ensures) _ (c .before .before .before .before .before .at .ensures) _ (c .before .enum-told .given .1) (c .good2 .ensures)
 
 returns-2 : tie.Need-returns-2
-returns-2 c = back-marked _ _ _ _ (c .before .before .before .before .before .before .before .before .before .pre .2) _ (c .before .before .before .before .before .before .before .walk-back .ensures) _ (c .before .before .before .before .at .ensures) _ _ (c .before .before .enum-told2 .given .1) (c .before .filemark-met .ensures) (c .checked .ensures)
+returns-2 c = back-marked _ _ _ _ (c .before .before .before .before .before .before .before .before .before .before .before .pre .2) _ (c .before .before .before .before .before .before .before .before .before .walk-back .ensures) _ (c .before .before .before .before .before .before .at .ensures) _ _ _ (c .before .before .before .before .before .difference .ensures) (c .before .before .before .before .difference2 .ensures) _ (c .checked .ensures) (c .before .before .enum-told2 .given .1) (c .before .filemark-met .ensures)
 
 returns-3 : tie.Need-returns-3
-returns-3 c = back-edge _ _ _ _ (c .before .before .before .before .before .before .before .before .before .pre .2) _ (c .before .before .before .before .before .before .before .walk-back .ensures) _ (c .before .before .before .before .at .ensures) _ _ (c .before .before .enum-told3 .given .1) (c .before .beginning-met .ensures) (c .checked2 .ensures)
+returns-3 c = back-edge _ _ _ _ (c .before .before .before .before .before .before .before .before .before .before .before .pre .2) _ (c .before .before .before .before .before .before .before .before .before .walk-back .ensures) _ (c .before .before .before .before .before .before .at .ensures) _ _ _ (c .before .before .before .before .before .difference .ensures) (c .before .before .before .before .difference2 .ensures) _ (c .checked2 .ensures) (c .before .before .enum-told3 .given .1) (c .before .beginning-met .ensures)
 
 pub space-back-spec : {M : Type 1} → statement M
 space-back-spec =
@@ -54,6 +60,8 @@ space-back-spec =
     walk-back-requires
     sub-at
     at-requires
+    difference-requires
+    difference-requires-2
     enum-told
     good-requires
     enum-told-2

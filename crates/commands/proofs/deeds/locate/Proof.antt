@@ -25,8 +25,8 @@ good-requires c κs = search needs
 returns : tie.Need-returns
 returns c = located _ _ _ _ _ _ (c .before .before .before .before .before .target-of .ensures) (c .before .before .before .before .object .ensures) (c .before .before .before .count-of .ensures) _ _ (c .before .before .if1 .taken) (c .before .at-partition .ensures) (c .good2 .ensures)
 
-told-requires : tie.Need-told-requires
-told-requires c κs = search needs
+end-told-requires : tie.Need-end-told-requires
+end-told-requires c κs = search needs
 
 at-partition-requires-2 : tie.Need-at-partition-requires-2
 at-partition-requires-2 c κs = search needs
@@ -35,7 +35,7 @@ checked-requires : tie.Need-checked-requires
 checked-requires c κs = search needs
 
 returns-2 : tie.Need-returns-2
-returns-2 c = stopped-short _ _ _ _ _ _ (c .before .before .before .before .before .before .target-of .ensures) (c .before .before .before .before .before .object .ensures) (c .before .before .before .before .count-of .ensures) _ _ _ (c .before .before .told .ensures) (c .before .before .before .if1 .left) (c .before .at-partition2 .ensures) (c .checked .ensures)
+returns-2 c = stopped-short _ _ _ _ _ _ (c .before .before .before .before .before .before .target-of .ensures) (c .before .before .before .before .before .object .ensures) (c .before .before .before .before .count-of .ensures) _ _ _ (c .before .before .end-told .ensures) (c .before .before .before .if1 .left) (c .before .at-partition2 .ensures) (c .checked .ensures)
 
 pub locate-spec : {M : Type 1} → statement M
 locate-spec =
@@ -47,7 +47,7 @@ locate-spec =
     at-partition-requires
     good-requires
     returns
-    told-requires
+    end-told-requires
     at-partition-requires-2
     checked-requires
     returns-2)

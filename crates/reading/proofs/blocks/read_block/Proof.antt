@@ -42,8 +42,8 @@ same-length-2 c = search needs
 returns-2 : tie.Need-returns-2
 returns-2 c = (block-hidden _ _ _ _ _ _ (c .before .before .before .before .before .before .before .before .before .before .before .before .before .pre .2) (c .before .before .before .before .before .before .before .before .copy-limited .ensures .1) (c .before .before .before .before .at .ensures) _ (c .before .before .before .if1 .left) _ (c .before .before .is-hidden .ensures) (c .before .if2 .taken) (c .good3 .ensures), c .before .before .before .before .before .before .before .before .copy-limited .ensures .0)
 
-told-requires : tie.Need-told-requires
-told-requires c κs = search needs
+odd-met-requires : tie.Need-odd-met-requires
+odd-met-requires c κs = search needs
 
 checked-requires : tie.Need-checked-requires
 checked-requires c κs = search needs
@@ -52,7 +52,7 @@ same-length-3 : tie.Need-same-length-3
 same-length-3 c = search needs
 
 returns-3 : tie.Need-returns-3
-returns-3 c = (block-odd _ _ _ _ _ _ (c .before .before .before .before .before .before .before .before .before .before .before .before .before .before .pre .2) (c .before .before .before .before .before .before .before .before .before .copy-limited .ensures .1) (c .before .before .before .before .before .at .ensures) _ (c .before .before .before .before .if1 .left) _ (c .before .before .before .is-hidden .ensures) (c .before .before .if2 .left) _ (c .before .told .ensures) (c .checked .ensures), c .before .before .before .before .before .before .before .before .before .copy-limited .ensures .0)
+returns-3 c = (block-odd _ _ _ _ _ _ (c .before .before .before .before .before .before .before .before .before .before .before .before .before .before .pre .2) (c .before .before .before .before .before .before .before .before .before .copy-limited .ensures .1) (c .before .before .before .before .before .at .ensures) _ (c .before .before .before .before .if1 .left) _ (c .before .before .before .is-hidden .ensures) (c .before .before .if2 .left) _ (c .before .odd-met .ensures) (c .checked .ensures), c .before .before .before .before .before .before .before .before .before .copy-limited .ensures .0)
 
 pub read-block-spec : {M : Type 1} → statement M
 read-block-spec =
@@ -70,7 +70,7 @@ read-block-spec =
     good-requires-2
     same-length-2
     returns-2
-    told-requires
+    odd-met-requires
     checked-requires
     same-length-3
     returns-3)

@@ -12,7 +12,7 @@ mul-run-leaves : tie.Need-mul-run-leaves
 mul-run-leaves c = record { fits = carried-fits _ (c .before .before .before .before .before .before .before .before .pre .0) _ _ _ (c .before .before .before .before .before .before .before .before .pre .1) (c .before .before .before .before .read-blocks .result) (c .before .before .before .before .read-blocks .ensures .0) }
 
 run-leaves-requires : tie.Need-run-leaves-requires
-run-leaves-requires c κs = place-fits _ (c .before .before .before .before .before .before .before .before .pre .0) _ _ _ (c .before .before .before .before .before .before .before .before .pre .1) (c .before .before .before .before .read-blocks .result) (c .before .before .before .before .read-blocks .ensures .0)
+run-leaves-requires c κs = (c .before .before .before .before .before .before .before .before .pre .0, place-fits _ (c .before .before .before .before .before .before .before .before .pre .0) _ _ _ (c .before .before .before .before .before .before .before .before .pre .1) (c .before .before .before .before .read-blocks .result) (c .before .before .before .before .read-blocks .ensures .0))
 
 same-length : tie.Need-same-length
 same-length c = search needs

@@ -10,14 +10,14 @@ use Rattle.reading.proofs.blocks.read_variable.Tie as tie
 count-of-requires : tie.Need-count-of-requires
 count-of-requires c κs = few _ (c .before .before .before .pre .0) .0
 
-told-requires : tie.Need-told-requires
-told-requires c κs = search needs
+end-met-requires : tie.Need-end-met-requires
+end-met-requires c κs = search needs
 
 checked-requires : tie.Need-checked-requires
 checked-requires c κs = search needs
 
 returns : tie.Need-returns
-returns c = meets-end _ _ _ _ _ _ (c .before .before .before .before .before .before .before .pre .2) _ (omega (arith, c .before .before .before .count-of .ensures, c .before .before .if1 .taken)) _ (c .before .told .ensures) (c .checked .ensures)
+returns c = meets-end _ _ _ _ _ _ (c .before .before .before .before .before .before .before .pre .2) _ (omega (arith, c .before .before .before .count-of .ensures, c .before .before .if1 .taken)) _ (c .before .end-met .ensures) (c .checked .ensures)
 
 cast-i : tie.Need-cast-i
 cast-i c = search needs
@@ -28,8 +28,8 @@ is-filemark-requires c κs =
     let o = lies (c .before .before .before .before .before .args .s .now) (c .before .before .before .before .before .pre .0) (c .before .before .before .before .before .args .d .position) (omega arith) in
     omega arith
 
-told-requires-2 : tie.Need-told-requires-2
-told-requires-2 c κs = search needs
+filemark-met-requires : tie.Need-filemark-met-requires
+filemark-met-requires c κs = search needs
 
 add-at : tie.Need-add-at
 add-at c = search needs
@@ -41,7 +41,7 @@ checked-requires-2 : tie.Need-checked-requires-2
 checked-requires-2 c κs = search needs
 
 returns-2 : tie.Need-returns-2
-returns-2 c = meets-filemark _ _ _ _ _ _ (c .before .before .before .before .before .before .before .before .before .before .pre .2) _ (omega (arith, c .before .before .before .before .before .before .count-of .ensures, c .before .before .before .before .before .if1 .left)) _ (c .before .before .before .before .is-filemark .ensures) (c .before .before .before .if2 .taken) _ (c .before .at .ensures) _ (c .before .before .told2 .ensures) (c .checked2 .ensures)
+returns-2 c = meets-filemark _ _ _ _ _ _ (c .before .before .before .before .before .before .before .before .before .before .pre .2) _ (omega (arith, c .before .before .before .before .before .before .count-of .ensures, c .before .before .before .before .before .if1 .left)) _ (c .before .before .before .before .is-filemark .ensures) (c .before .before .before .if2 .taken) _ (c .before .at .ensures) _ (c .before .before .filemark-met .ensures) (c .checked2 .ensures)
 
 end-at-requires : tie.Need-end-at-requires
 end-at-requires c κs =
@@ -96,12 +96,12 @@ read-variable-spec =
     tie.close
     (tie.spec
     count-of-requires
-    told-requires
+    end-met-requires
     checked-requires
     returns
     cast-i
     is-filemark-requires
-    told-requires-2
+    filemark-met-requires
     add-at
     at-requires
     checked-requires-2

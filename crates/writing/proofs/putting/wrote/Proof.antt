@@ -9,34 +9,34 @@ use Rattle.writing.proofs.putting.wrote.Statement.{statement}
 use Rattle.writing.proofs.putting.wrote.Tie as tie
 
 add-there : tie.Need-add-there
-add-there c = let w = few _ (c .before .before .pre .0) in let h = c .before .before .pre .1 in record { fits = omega arith }
+add-there c = let w = few _ (c .before .pre .0) in let h = c .before .pre .1 in record { fits = omega arith }
 
 at-requires : tie.Need-at-requires
 at-requires c κs = search needs
 
-told-requires : tie.Need-told-requires
-told-requires c κs = search needs
+overflowed-requires : tie.Need-overflowed-requires
+overflowed-requires c κs = search needs
 
 checked-requires : tie.Need-checked-requires
 checked-requires c κs = search needs
 
 returns : tie.Need-returns
-returns c = told-short _ _ _ _ _ _ _ _ (c .before .before .before .at .ensures) (c .before .before .if1 .taken) _ (c .before .told .ensures) (c .checked .ensures)
+returns c = told-short _ _ _ _ _ _ _ _ (c .before .before .before .at .ensures) (c .before .before .if1 .taken) _ (c .before .overflowed .ensures) (c .checked .ensures)
 
 cast-in-zone : tie.Need-cast-in-zone
 cast-in-zone c = search needs
 
 in-zone-requires : tie.Need-in-zone-requires
-in-zone-requires c κs = let w = sound-parts _ (c .before .before .before .before .pre .0) in (entries-in _ w _ (c .before .before .before .before .pre .1), w .most)
+in-zone-requires c κs = let w = sound-parts _ (c .before .before .before .pre .0) in let i = entries-in _ w _ (c .before .before .before .pre .1) in (omega arith, w .most)
 
-told-requires-2 : tie.Need-told-requires-2
-told-requires-2 c κs = search needs
+warned-requires : tie.Need-warned-requires
+warned-requires c κs = search needs
 
 checked-requires-2 : tie.Need-checked-requires-2
 checked-requires-2 c κs = search needs
 
 returns-2 : tie.Need-returns-2
-returns-2 c = told-zone _ _ _ _ _ _ _ _ (c .before .before .before .before .before .at .ensures) (c .before .before .before .before .if1 .left) _ (c .before .before .before .in-zone .ensures) (c .before .before .if2 .taken) _ (c .before .told2 .ensures) (c .checked2 .ensures)
+returns-2 c = told-zone _ _ _ _ _ _ _ _ (c .before .before .before .before .before .at .ensures) (c .before .before .before .before .if1 .left) _ (c .before .before .before .in-zone .ensures) (c .before .before .if2 .taken) _ (c .before .warned .ensures) (c .checked2 .ensures)
 
 good-requires : tie.Need-good-requires
 good-requires c κs = search needs
@@ -50,12 +50,12 @@ wrote-spec =
     (tie.spec
     add-there
     at-requires
-    told-requires
+    overflowed-requires
     checked-requires
     returns
     cast-in-zone
     in-zone-requires
-    told-requires-2
+    warned-requires
     checked-requires-2
     returns-2
     good-requires

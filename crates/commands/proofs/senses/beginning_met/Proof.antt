@@ -1,8 +1,8 @@
 -- What `told` ensures of these parts: written out, so that a wrong part is refused here and not at a caller.
 -- Assumes nothing.
 use borrow.Author.Needs.{needs}
-use Rattle.moving.proofs.beginning_met.Statement.{statement}
-use Rattle.moving.proofs.beginning_met.Tie as tie
+use Rattle.commands.proofs.senses.beginning_met.Statement.{statement}
+use Rattle.commands.proofs.senses.beginning_met.Tie as tie
 
 told-requires : tie.Need-told-requires
 told-requires c κs = search needs

@@ -1,0 +1,25 @@
+-- What `told` ensures of these parts, with the bit that `eom_at_end` answers, whatever that is.
+-- Assumes nothing.
+use mathlib.Core.Path.{_≡_, ap, _∙_}
+use mathlib.Core.Bool.{Bool, false}
+use lib.IntN.{ℤ}
+use borrow.Author.Needs.{needs}
+use Rattle.sense.specs.declared.Sense.{Sense}
+use Rattle.sense.specs.Sense.{blankCheck, told}
+use Rattle.commands.proofs.senses.end_told.Statement.{statement}
+use Rattle.commands.proofs.senses.end_told.Tie as tie
+
+with-bit : (counts a b : Bool) (z : ℤ) → a ≡ b → (t : Sense) → t ≡ told counts false a false blankCheck 0x00 0x05 z → t ≡ told counts false b false blankCheck 0x00 0x05 z
+with-bit counts a b z e t q = q ∙ ap (λ (eom : Bool). told counts false eom false blankCheck 0x00 0x05 z) e
+
+eom-at-end-requires : tie.Need-eom-at-end-requires
+eom-at-end-requires c κs = search needs
+
+told-requires : tie.Need-told-requires
+told-requires c κs = search needs
+
+returns : tie.Need-returns
+returns c = with-bit _ _ _ _ (c .before .eom-at-end .ensures) _ (c .told .ensures)
+
+pub end-told-spec : {M : Type 1} → statement M
+end-told-spec = tie.close (tie.spec eom-at-end-requires told-requires returns)

@@ -1,0 +1,74 @@
+// The senses of a command that reports its residue, each told once: what it met, or what it could not put.
+ghost use mathlib.Core.Path.{_≡_};
+ghost use mathlib.Core.Bool.{true};
+ghost use lib.IntN.{subℕ};
+ghost use Rattle.image.specs.Image.{sound};
+ghost use Rattle.commands.specs.Act.{eomAtEnd, endTold, endMet, filemarkMet, oddMet, beginningMet};
+ghost use Rattle.commands.specs.Act.{warned as Act·warned, overflowed as Act·overflowed};
+ghost use Rattle.commands.specs.Call.{seenOf};
+use sense::Sense;
+
+// A filemark met: 0/00/01, FILEMARK.
+pub fn filemark_met(request: u32, actual: u32) -> Sense
+    ensures { λ r. ⌜ r ≡ filemarkMet (subℕ request actual) ⌝ }
+{
+    let key = sense::NO_SENSE;
+    sense::told(true, true, false, false, key, 0x00, 0x01, request, actual)
+}
+
+// A block of another length: 0/00/00, ILI.
+pub fn odd_met(request: u32, actual: u32) -> Sense
+    ensures { λ r. ⌜ r ≡ oddMet (subℕ request actual) ⌝ }
+{
+    let key = sense::NO_SENSE;
+    sense::told(true, false, false, true, key, 0x00, 0x00, request, actual)
+}
+
+// The beginning met: 0/00/04, EOM.
+pub fn beginning_met(request: u32, actual: u32) -> Sense
+    ensures { λ r. ⌜ r ≡ beginningMet (subℕ request actual) ⌝ }
+{
+    let key = sense::NO_SENSE;
+    sense::told(true, false, true, false, key, 0x00, 0x04, request, actual)
+}
+
+// EOM at end of data: never, by a house rule, whatever is seen of the partition.
+fn eom_at_end(s: &[u8]) -> bool
+    requires { ⌜ sound (now s) ≡ true ⌝ }
+    ensures { λ r. ⌜ r ≡ eomAtEnd (seenOf (now (s .entry))) ⌝ }
+{
+    false
+}
+
+// End of data of the partition s: 8/00/05, by a command that counts or not.
+pub fn end_told(s: &[u8], counts: bool, request: u32, actual: u32) -> Sense
+    requires { ⌜ sound (now s) ≡ true ⌝ }
+    ensures { λ r. ⌜ r ≡ endTold counts (seenOf (now (s .entry))) (subℕ request actual) ⌝ }
+{
+    let key = sense::BLANK_CHECK;
+    let eom = eom_at_end(s);
+    sense::told(counts, false, eom, false, key, 0x00, 0x05, request, actual)
+}
+
+// End of data, by a command that counts.
+pub fn end_met(s: &[u8], request: u32, actual: u32) -> Sense
+    requires { ⌜ sound (now s) ≡ true ⌝ }
+    ensures { λ r. ⌜ r ≡ endMet (seenOf (now (s .entry))) (subℕ request actual) ⌝ }
+{
+    end_told(s, true, request, actual)
+}
+
+// All put, and the new position in the zone: 0/00/02, EOM, information 0.
+pub fn warned() -> Sense
+    ensures { λ r. ⌜ r ≡ Act·warned ⌝ }
+{
+    sense::told(true, false, true, false, sense::NO_SENSE, 0x00, 0x02, 0, 0)
+}
+
+// Not all put: D/00/02, EOM.
+pub fn overflowed(request: u32, actual: u32) -> Sense
+    ensures { λ r. ⌜ r ≡ Act·overflowed (subℕ request actual) ⌝ }
+{
+    let key = sense::VOLUME_OVERFLOW;
+    sense::told(true, false, true, false, key, 0x00, 0x02, request, actual)
+}
