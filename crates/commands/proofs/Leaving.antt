@@ -9,6 +9,7 @@ use borrow.Author.Tests.{eq-eqb, ne-eqb, le-leb, lt-leb, not-true, not-false}
 use lib.IntN.{subℕ}
 use lib.ListN.{length}
 use Rattle.answers.specs.Answers.{checkCondition}
+use Rattle.objects.specs.Movement as M
 use Rattle.sense.specs.declared.Sense.{Sense}
 use Rattle.sense.specs.Sense.{illegalRequest, senseBytes, emptySense, told}
 use Rattle.image.specs.Image.{count, objects}
@@ -18,7 +19,7 @@ use Rattle.record.specs.Record.{withSense}
 use Rattle.codes.specs.Fields.{changesPartition, partitionOf, objectOf, allocationOf}
 use Rattle.mode.specs.Mode.{wholeLength, listLengthKnown, listRight, newLength}
 use Rattle.commands.specs.declared.deeds.Left.{Left}
-use Rattle.commands.specs.Act.{carrying, good, checked, atPartition, withLength, endTold, targetOf, locating, selecting}
+use Rattle.commands.specs.Act.{carrying, good, checked, atPartition, withLength, endTold, targetOf, locateTells, locating, selecting}
 use Rattle.commands.specs.Step.{statusOf, keptOf}
 use Rattle.commands.specs.Call.{seenOf}
 use Rattle.commands.specs.Left.{leftBy}
@@ -46,11 +47,11 @@ module _ (d : Drive) (cmd s : List ℕ) (k n m : ℕ) (ek : k ≡ targetOf d cmd
   objects-counted = length-objects s ∙ sym em
 
   pub located : n ≤ m → e ≡ atPartition d k n → r ≡ leftBy (carrying 0 (good e)) → r ≡ leftBy (locating d cmd (seenOf s))
-  unfolding locating seenOf
+  unfolding locating locateTells M.toObject seenOf
   located w a q = q ∙ rw (a, ek, en, objects-counted, le-leb (objectOf cmd) m (subst (λ (x : ℕ). x ≤ m) en w)) refl
 
   pub stopped-short : (t : Sense) → t ≡ endTold false (seenOf s) (subℕ 0 0) → m < n → e ≡ atPartition d k m → r ≡ leftBy (carrying 0 (checked e t)) → r ≡ leftBy (locating d cmd (seenOf s))
-  unfolding locating seenOf
+  unfolding locating locateTells M.toObject seenOf
   stopped-short t et w a q = q ∙ rw (a, ek, et, objects-counted, lt-leb (objectOf cmd) m (subst (λ (x : ℕ). m < x) en w)) refl
 
 -- a list length that is known and not 0 is at least the header's

@@ -12,7 +12,7 @@ use Rattle.words.specs.Words.{limited}
 use Rattle.objects.specs.Object.{Object, filemark, block, bytesIn, filemarksIn}
 use Rattle.objects.specs.Movement as M
 use Rattle.objects.specs.Events.{Event, cut}
-use Rattle.image.specs.Image.{roomOf, zoneIn}
+use Rattle.objects.specs.Room.{roomOf, zoneIn}
 use Rattle.sense.specs.declared.Sense.{Sense}
 use Rattle.sense.specs.Sense.{noSense, illegalRequest, blankCheck, volumeOverflow, told, plainly, attentionSense}
 use Rattle.record.specs.declared.drive.Drive.{Drive}
@@ -201,11 +201,13 @@ overFilemarks = 1
 abbrev pub toEnd : ℕ
 toEnd = 3
 
+unfoldable pub movement : List ℕ → ℕ → List Object → M.Move
+movement cmd p xs =
+    cond (eqb (spaceCodeOf cmd) toEnd) (M.toEndOfData p xs)
+    (M.space (cond (eqb (spaceCodeOf cmd) overBlocks) M.blocks M.filemarks) (spaceCountOf cmd) p xs)
+
 unfoldable pub spacing : Drive → List ℕ → Seen → Deed
-spacing d cmd v =
-    let k = spaceCountOf cmd in
-    cond (eqb (spaceCodeOf cmd) toEnd) (good (at d (length (v .objects))))
-    (moved d v k (M.space (cond (eqb (spaceCodeOf cmd) overBlocks) M.blocks M.filemarks) k (d .position) (v .objects)))
+spacing d cmd v = moved d v (spaceCountOf cmd) (movement cmd (d .position) (v .objects))
 
 -- ---- LOCATE
 
@@ -213,12 +215,18 @@ spacing d cmd v =
 unfoldable pub targetOf : Drive → List ℕ → ℕ
 targetOf d cmd = cond (changesPartition cmd) (partitionOf cmd) (d .current)
 
--- "Above N: 8/00/05, EOM 0, at N of the target (H)." v is what is seen of the target.
+-- "Above N: 8/00/05, EOM 0"
+unfoldable pub locateTells : Seen → M.Why → Option Sense
+locateTells v M.done = none
+locateTells v M.marked = none
+locateTells v M.edge = some (endTold false v (pos 0))
+
+-- ".. at N of the target (H)": v is what is seen of the target, on which it moves from the position, or from the beginning of another partition
 unfoldable pub locating : Drive → List ℕ → Seen → Deed
 locating d cmd v =
-    let n = length (v .objects) in
-    cond (leb (objectOf cmd) n) (good (atPartition d (targetOf d cmd) (objectOf cmd)))
-    (checked (atPartition d (targetOf d cmd) n) (endTold false v (pos 0)))
+    let k = targetOf d cmd in
+    let m = M.toObject (cond (eqb k (d .current)) (d .position) 0) (objectOf cmd) (v .objects) in
+    record { drive = atPartition d k (m .to); tells = locateTells v (m .why); received = []; carried = 0 }
 
 -- ---- MODE SELECT
 

@@ -14,7 +14,7 @@ use Rattle.codes.specs.Codes.{tooShort, inMasks, masksHold}
 use Rattle.codes.specs.Fields.{fixedOf, siliOf, transferOf, spaceCodeOf, spaceCountOf, longOf, changesPartition, objectOf, partitionOf, loadOf, formOf, dbdOf, pageOf, pfOf, allocationOf}
 use Rattle.commands.specs.Stop.{first}
 use Rattle.transfer.specs.Transfer.{runOf, blocksOf, marksOf, fitting, putFrom}
-use Rattle.commands.specs.Act.{hidden, readVariable, runTells, reading, offered, goesDown, wrote, writing, marking, spaceTells, spacing, targetOf, locating, selecting, replyOf, act, eventsOf}
+use Rattle.commands.specs.Act.{hidden, readVariable, runTells, reading, offered, goesDown, wrote, writing, marking, spaceTells, movement, spacing, targetOf, locateTells, locating, selecting, replyOf, act, eventsOf}
 use Rattle.commands.specs.Tests.{bytesAsked, fieldError, taken, replyLength, needed, tests}
 use Rattle.commands.specs.Step.{statusOf, keptOf, stopped, acted, unless, step}
 use Rattle.commands.specs.Call.{looksAt, seenOf, seen, inserted, laidOut, applied, stepOf, called, commandCall}
@@ -23,20 +23,20 @@ use Rattle.edges.specs.Cases.{Edges, cases, blank64, ten, filemarks}
 use Rattle.edges.specs.Traps.{Traps, traps, full, guarded}
 
 pub edges : Edges cases
-unfolding Edges cases blank64 ten filemarks E be bytes over signed wrapped bytesIn filemarksIn M.walk M.before M.ahead M.astern M.space M.residue
+unfolding Edges cases blank64 ten filemarks E be bytes over signed wrapped bytesIn filemarksIn M.walk M.before M.ahead M.astern M.space M.residue M.toEndOfData M.toObject
     count flags protected directory size entry topBit low31 endAt follows ordered rightLength sound objectAt upto objects retitle entryOf enter occur occurs cleared blank
     senseBytes reports told emptySense attentionSense decodeOf encodeOf attentionKnown emptyHanded placed wellFormed wellRecord withSense tooShort inMasks masksHold
     fixedOf siliOf transferOf spaceCodeOf spaceCountOf longOf changesPartition objectOf partitionOf loadOf formOf dbdOf pageOf pfOf allocationOf
-    first runOf blocksOf marksOf fitting putFrom hidden readVariable runTells reading offered goesDown wrote writing marking spaceTells spacing targetOf locating selecting replyOf act eventsOf
+    first runOf blocksOf marksOf fitting putFrom hidden readVariable runTells reading offered goesDown wrote writing marking spaceTells movement spacing targetOf locateTells locating selecting replyOf act eventsOf
     bytesAsked fieldError taken replyLength needed tests statusOf keptOf stopped acted unless step looksAt seenOf seen inserted laidOut applied stepOf called commandCall
 edges = (refl, (refl, (refl, (refl, (refl, (refl, (refl, (refl, (refl, (refl, (refl, (refl, (refl, (refl, (refl, tt)))))))))))))))
 
 -- and the cases beside the table
 pub trapped : Traps traps
-unfolding Traps traps full guarded blank64 ten E be bytes over signed wrapped bytesIn filemarksIn M.walk M.before M.ahead M.astern M.space M.residue
+unfolding Traps traps full guarded blank64 ten E be bytes over signed wrapped bytesIn filemarksIn M.walk M.before M.ahead M.astern M.space M.residue M.toEndOfData M.toObject
     count flags protected directory size entry topBit low31 endAt follows ordered rightLength sound objectAt upto objects retitle entryOf enter occur occurs cleared blank
     senseBytes reports told emptySense attentionSense decodeOf encodeOf attentionKnown emptyHanded placed wellFormed wellRecord withSense tooShort inMasks masksHold
     fixedOf siliOf transferOf spaceCodeOf spaceCountOf longOf changesPartition objectOf partitionOf loadOf formOf dbdOf pageOf pfOf allocationOf
-    first runOf blocksOf marksOf fitting putFrom hidden readVariable runTells reading offered goesDown wrote writing marking spaceTells spacing targetOf locating selecting replyOf act eventsOf
+    first runOf blocksOf marksOf fitting putFrom hidden readVariable runTells reading offered goesDown wrote writing marking spaceTells movement spacing targetOf locateTells locating selecting replyOf act eventsOf
     bytesAsked fieldError taken replyLength needed tests statusOf keptOf stopped acted unless step looksAt seenOf seen inserted laidOut applied stepOf called commandCall protect reflag blockLimits modeData listLengthKnown headerRight descriptorRight listRight shortPosition longPosition unloaded loadedAnew
 trapped = (refl, (refl, (refl, (refl, (refl, (refl, (refl, (refl, (refl, (refl, (refl, (refl, (refl, (refl, (refl, (refl, (refl, (refl, (refl, (refl, (refl, (refl, (refl, (refl, (refl, (refl, (refl, (refl, (refl, (refl, (refl, (refl, tt))))))))))))))))))))))))))))))))

@@ -13,7 +13,8 @@ use lib.IntN.{ℤ, subℕ}
 use lib.ListN.{length, take}
 use Rattle.objects.specs.Object.{Object, block, bytesIn, largestBlock}
 use Rattle.objects.specs.Events.{Event, cut}
-use Rattle.image.specs.Image.{count, roomOf, zoneIn}
+use Rattle.objects.specs.Room.{roomOf, zoneIn}
+use Rattle.image.specs.Image.{count}
 use Rattle.image.specs.Changes.{occurs}
 use Rattle.image.proofs.Facts.{Sound}
 use Rattle.sense.specs.declared.Sense.{Sense}

@@ -12,7 +12,7 @@ use lib.IntN.{ℤ, subℕ}
 use lib.ListN.{length, take, drop}
 use lib.Seq.{take-all}
 use Rattle.objects.specs.Object.{Object, block, dataOf, bytesIn}
-use Rattle.image.specs.Image.{roomOf, zoneIn}
+use Rattle.objects.specs.Room.{roomOf, zoneIn}
 use Rattle.sense.specs.declared.Sense.{Sense}
 use Rattle.record.specs.declared.drive.Drive.{Drive}
 use Rattle.record.specs.Record.{decodeOf, withSense}

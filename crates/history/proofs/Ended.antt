@@ -12,7 +12,7 @@ use lib.Seq.{take-nil}
 use Rattle.answers.specs.Answers.{refused}
 use Rattle.objects.specs.Object.{Object, dataOf}
 use Rattle.objects.specs.Events.{cut}
-use Rattle.image.specs.Image.{roomOf, fitsIn}
+use Rattle.objects.specs.Room.{roomOf, fitsIn}
 use Rattle.sense.specs.Sense.{senseLength, senseBytes, plainly, attentionSense}
 use Rattle.record.specs.declared.drive.Drive.{Drive}
 use Rattle.record.specs.Record.{attentionKnown, decodeOf, encodeOf, wellRecord, withSense}

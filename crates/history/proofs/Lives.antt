@@ -19,7 +19,7 @@ use Rattle.cartridge.specs.Mount.{rightLengths, bothSound, mountFault, mountCal
 use Rattle.mode.specs.Mode.{listLengthKnown, headerRight, descriptorRight, listRight}
 use Rattle.transfer.specs.Transfer.{blocksOf, marksOf, fitting, putFrom}
 use Rattle.commands.specs.Stop.{first}
-use Rattle.commands.specs.Act.{hidden, readVariable, reading, offered, goesDown, wrote, writing, marking, spaceTells, spacing, selecting, replyOf, act, eventsOf}
+use Rattle.commands.specs.Act.{hidden, readVariable, reading, offered, goesDown, wrote, writing, marking, spaceTells, movement, spacing, selecting, replyOf, act, eventsOf}
 use Rattle.commands.specs.Tests.{bytesAsked, fieldError, taken, replyLength, needed, tests}
 use Rattle.commands.specs.Step.{statusOf, keptOf, stopped, acted, unless, step}
 use Rattle.commands.specs.Call.{looksAt, seenOf, seen, inserted, laidOut, applied, stepOf, called, commandTests, commandCall}
@@ -32,12 +32,12 @@ use Rattle.history.specs.Lives.{blank64, uses, oneDrive, severalDrives, 
 pub computed : Computed
 unfolding blank64 uses oneDrive severalDrives AllHarmless callsOf recordUsed after caused events ends past metOf readings partsOf
     hidden readVariable reading
-    be bytes over signed wrapped bytesIn filemarksIn M.walk M.before M.ahead M.astern M.space M.residue
+    be bytes over signed wrapped bytesIn filemarksIn M.walk M.before M.ahead M.astern M.space M.residue M.toEndOfData M.toObject
     count flags protected directory size entry topBit low31 endAt follows ordered rightLength sound objectAt upto objects retitle entryOf enter occur occurs cleared blank protect reflag
     blankCall faultOf protectCall rightLengths bothSound mountFault mountCall senseBytes reports told emptySense attentionSense
     decodeOf encodeOf attentionKnown emptyHanded placed wellFormed wellRecord freshDrive mountedDrive withSense unloaded loadedAnew tooShort inMasks masksHold
     fixedOf siliOf transferOf spaceCodeOf spaceCountOf longOf loadOf pfOf allocationOf listLengthKnown headerRight descriptorRight listRight
-    first blocksOf marksOf fitting putFrom offered goesDown wrote writing marking spaceTells spacing selecting replyOf act eventsOf
+    first blocksOf marksOf fitting putFrom offered goesDown wrote writing marking spaceTells movement spacing selecting replyOf act eventsOf
     bytesAsked fieldError taken replyLength needed tests statusOf keptOf stopped acted unless step looksAt seenOf seen inserted laidOut applied stepOf called commandTests commandCall
 computed = record {
   one = (refl, refl);

@@ -14,7 +14,7 @@ use Rattle.words.specs.Words.{be}
 use Rattle.sense.specs.Sense.{illegalRequest, plainly}
 use Rattle.objects.specs.Object.{Object, filemark, block, largestBlock}
 use Rattle.objects.specs.Movement as M
-use Rattle.objects.proofs.Walk.{went}
+use Rattle.objects.proofs.Walk.{went, went-end}
 use Rattle.image.specs.Image.{count}
 use Rattle.image.proofs.Facts.{Sound}
 use Rattle.record.specs.declared.drive.Drive.{Drive}
@@ -22,7 +22,7 @@ use Rattle.record.specs.Record.{loadedAnew, unloaded}
 use Rattle.codes.specs.Fields.{fixedOf, transferOf, spaceCodeOf, spaceCountOf, objectOf, allocationOf, loadOf}
 use Rattle.transfer.specs.Transfer.{Run, runOf, after, halted, oddLength}
 use Rattle.mode.specs.Mode.{wholeLength, headerLength, headerRight, descriptorRight, listRight, newLength}
-use Rattle.commands.specs.Act.{Seen, Deed, good, checked, carrying, endTold, at, atPartition, withLength, hidden, reading, readVariable, spacing, overBlocks, toEnd, targetOf, locating, selecting}
+use Rattle.commands.specs.Act.{Seen, Deed, good, checked, carrying, endTold, at, atPartition, withLength, hidden, reading, readVariable, movement, spacing, overBlocks, toEnd, targetOf, locating, selecting}
 use Rattle.commands.specs.Call.{partition}
 use Rattle.history.proofs.Lists.{get-lt}
 use Rattle.history.proofs.Faultless.{Cart, no-cart, one-part, two-parts, Well}
@@ -142,19 +142,22 @@ reading-moves d cmd v h =
         either-moves d _ (eqb (length bs) (transferOf cmd) || hidden d cmd (length bs)) _ _ m m
 
 pub spacing-moves : (d : Drive) (cmd : List ℕ) (v : Seen) → d .position ≤ length (v .objects) → Moves d (length (v .objects)) ((spacing d cmd v) .drive)
-unfolding spacing
-spacing-moves d cmd v h =
-    let w = went (cond (eqb (spaceCodeOf cmd) overBlocks) M.blocks M.filemarks) (spaceCountOf cmd) (d .position) (v .objects) h in
-    either-moves d _ (eqb (spaceCodeOf cmd) toEnd) _ _ (record { to = length (v .objects); is = refl; within = omega arith })
-    (record { to = (M.space (cond (eqb (spaceCodeOf cmd) overBlocks) M.blocks M.filemarks) (spaceCountOf cmd) (d .position) (v .objects)) .to; is = refl; within = w .stays })
+unfolding spacing movement
+spacing-moves d cmd v h = record { to = (movement cmd (d .position) (v .objects)) .to; is = refl; within = go (eqb (spaceCodeOf cmd) toEnd) }
+  where
+    go : (t : Bool) → (cond t (M.toEndOfData (d .position) (v .objects)) (M.space (cond (eqb (spaceCodeOf cmd) overBlocks) M.blocks M.filemarks) (spaceCountOf cmd) (d .position) (v .objects))) .to ≤ length (v .objects)
+    go true = went-end (d .position) (v .objects) h .stays
+    go false = went (cond (eqb (spaceCodeOf cmd) overBlocks) M.blocks M.filemarks) (spaceCountOf cmd) (d .position) (v .objects) h .stays
 
 -- ---- LOCATE
 
 pub located-well : (d : Drive) (p0 p1 cmd : List ℕ) (v : Seen) → Well d p0 p1 → (d .loaded ≡ 0 → ⊥) → targetOf d cmd < d .partitions → length (v .objects) ≡ count (partition (targetOf d cmd) p0 p1) → Well ((locating d cmd v) .drive) p0 p1
-unfolding locating
-located-well d p0 p1 cmd v w l h e = go (leb (objectOf cmd) (length (v .objects))) refl
+unfolding locating M.toObject
+located-well d p0 p1 cmd v w l h e = placed-well d p0 p1 (targetOf d cmd) _ w l h (omega (arith, go (leb (objectOf cmd) (length (v .objects))) refl))
   where
-    go : (t : Bool) → leb (objectOf cmd) (length (v .objects)) ≡ t
-        → Well ((cond t (good (atPartition d (targetOf d cmd) (objectOf cmd))) (checked (atPartition d (targetOf d cmd) (length (v .objects))) (endTold false v (pos 0)))) .drive) p0 p1
-    go true q = placed-well d p0 p1 (targetOf d cmd) (objectOf cmd) w l h (omega (arith, leb-true (objectOf cmd) (length (v .objects)) q))
-    go false q = placed-well d p0 p1 (targetOf d cmd) (length (v .objects)) w l h (omega arith)
+    from : ℕ
+    from = cond (eqb (targetOf d cmd) (d .current)) (d .position) 0
+
+    go : (t : Bool) → leb (objectOf cmd) (length (v .objects)) ≡ t → (cond t (M.straight from (objectOf cmd) M.done) (M.straight from (length (v .objects)) M.edge)) .to ≤ length (v .objects)
+    go true q = leb-true (objectOf cmd) (length (v .objects)) q
+    go false q = omega arith

@@ -8,6 +8,7 @@ use mathlib.Core.List.{List}
 use borrow.Author.Tests.{eq-eqb, ne-eqb, le-ltb, lt-leb, le-leb}
 use lib.ListN.{length}
 use Rattle.words.specs.Words.{be, bytes}
+use Rattle.objects.specs.Movement as M
 use Rattle.image.specs.Changes.{occurs}
 use Rattle.record.specs.declared.drive.Drive.{Drive}
 use Rattle.record.specs.Record.{noAttention, decodeOf, encodeOf, withSense}
@@ -16,7 +17,7 @@ use Rattle.codes.specs.declared.operation.Operation.the-variants.{Locate, Rewin
 use Rattle.codes.specs.Codes.{codeOf, operationOf, tooShort, inMasks, masksHold}
 use Rattle.codes.specs.Fields.{changesPartition, partitionOf, objectOf}
 use Rattle.commands.specs.Stop.{first}
-use Rattle.commands.specs.Act.{Seen, Deed, good, atPartition, targetOf, locating, act, eventsOf}
+use Rattle.commands.specs.Act.{Seen, Deed, good, atPartition, targetOf, locateTells, locating, act, eventsOf}
 use Rattle.commands.specs.Tests.{tests, fieldError, taken, replyLength, needed}
 use Rattle.commands.specs.Step.{acted, statusOf, keptOf}
 use Rattle.commands.specs.Call.{lent, Result, seen, written, commandTests, commandCall, laidOut, applied, looksAt}
@@ -68,7 +69,7 @@ module _ (rec p0 p1 sent received : List ℕ) (m : Mounted rec (cartridge p0 p1)
       }
 
   located : (s : Slot) (v : Seen) → locating (decodeOf rec) (locateFirst s) v ≡ good (atPartition (decodeOf rec) (number s) 0)
-  unfolding locating targetOf changesPartition partitionOf objectOf be bytes
+  unfolding locating locateTells M.toObject targetOf changesPartition partitionOf objectOf be bytes
   located slot0 v = rw (le-leb 0 (length (v .objects)) zero-le) refl
   located slot1 v = rw (le-leb 0 (length (v .objects)) zero-le) refl
 

@@ -9,7 +9,8 @@ use lib.ListN.{length, getD, take}
 use lib.Seq.{slice, length-slice, getD-take, getD-drop, ext-getD}
 use Rattle.words.proofs.Laws.{be-same}
 use Rattle.objects.specs.Object.{filemark, block}
-use Rattle.image.specs.Image.{trailerLength, entryLength, entryPlace, entry, topBit, low31, endAt, ordered, objectAt}
+use Rattle.objects.specs.Room.{trailerLength, entryLength}
+use Rattle.image.specs.Image.{entryPlace, entry, topBit, low31, endAt, ordered, objectAt}
 
 -- the bytes of a and b from f up to t are the same
 abbrev pub Agree : ℕ → ℕ → List ℕ → List ℕ → Type 0

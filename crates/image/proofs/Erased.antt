@@ -6,7 +6,8 @@ use mathlib.Core.List.{List}
 use native.Mathlib.Nat.{le-refl}
 use native.Mathlib.Omega.{arith}
 use lib.ListN.{length, take, getD}
-use Rattle.image.specs.Image.{trailerLength, entryLength, count, flags, directory, size, endAt, objectAt, objects}
+use Rattle.objects.specs.Room.{trailerLength, entryLength}
+use Rattle.image.specs.Image.{count, flags, directory, size, endAt, objectAt, objects}
 use Rattle.image.specs.Changes.{retitle}
 use Rattle.image.proofs.Facts.{Sound, ordered-below, ends-in, entries-in}
 use Rattle.image.proofs.Alike.{Agree, alike-end, alike-ordered, alike-object}

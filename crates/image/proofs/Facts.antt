@@ -14,7 +14,8 @@ use lib.Bits.{bitOr, bitAnd, or-shifted, or-shifted-r, and-mask}
 use mir.Val.{boolByte}
 use borrow.Author.Tests.{ltb-true, leb-true, eqb-true, eqb-false, lt-ltb, le-ltb, le-leb, lt-leb, eq-eqb, ne-eqb}
 use Rattle.objects.specs.Object.{largestBlock}
-use Rattle.image.specs.Image.{leastLength, mostLength, trailerLength, entryLength, flagBits, count, flags, directory, size, entry, topBit, low31, endAt, follows, ordered, rightLength, sound, used, room, fits, filemarksBefore}
+use Rattle.objects.specs.Room.{trailerLength, entryLength}
+use Rattle.image.specs.Image.{leastLength, mostLength, flagBits, count, flags, directory, size, entry, topBit, low31, endAt, follows, ordered, rightLength, sound, used, room, fits, filemarksBefore}
 use Rattle.image.proofs.Tests.{both, split, leb-moved}
 
 -- ---- an entry's two parts

@@ -8,7 +8,8 @@ use native.Mathlib.Omega.{arith}
 use lib.ListN.{length, getD, length-replicate}
 use Rattle.words.specs.Words.{be, zeros}
 use Rattle.words.proofs.Laws.{Outside, length-over, be-over-ge, getD-over-lt, getD-over-ge, getD-over-out}
-use Rattle.image.specs.Image.{trailerLength, entryLength, count, flags, directory, size, endAt, objectAt, objects}
+use Rattle.objects.specs.Room.{trailerLength, entryLength}
+use Rattle.image.specs.Image.{count, flags, directory, size, endAt, objectAt, objects}
 use Rattle.image.specs.Changes.{cleared}
 use Rattle.image.proofs.Facts.{Sound, ends-grow, entries-in}
 use Rattle.image.proofs.Alike.{Agree, alike-end, alike-ordered, alike-object}

@@ -12,7 +12,8 @@ use borrow.Author.Tests.{eq-eqb, le-ltb, lt-ltb, not-true, not-false}
 use Rattle.words.proofs.Laws.{part-is}
 use Rattle.answers.specs.Answers.{unsoundImage, wrongLength}
 use Rattle.image.specs.declared.part.Part.{Part}
-use Rattle.image.specs.Image.{leastLength, mostLength, trailerLength, entryLength, flagBits, count, flags, directory, size, entry, topBit, endAt, ordered, rightLength, sound}
+use Rattle.objects.specs.Room.{trailerLength, entryLength}
+use Rattle.image.specs.Image.{leastLength, mostLength, flagBits, count, flags, directory, size, entry, topBit, endAt, ordered, rightLength, sound}
 use Rattle.image.specs.Services.{faultOf, emptyPart, partOf, shown}
 use Rattle.image.specs.Within.{Within}
 use Rattle.image.proofs.Tests.{cases}

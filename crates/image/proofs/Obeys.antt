@@ -11,7 +11,8 @@ use Rattle.words.specs.Words.{bytes, over}
 use Rattle.words.proofs.Laws.{Outside, length-bytes, length-over, length-put, getD-over-out}
 use Rattle.objects.specs.Object.{Object, dataOf}
 use Rattle.objects.specs.Events.{Event, put, cut, place, happen, happens, Lawful}
-use Rattle.image.specs.Image.{trailerLength, entryPlace, count, flags, endAt, fits, objects}
+use Rattle.objects.specs.Room.{trailerLength}
+use Rattle.image.specs.Image.{entryPlace, count, flags, endAt, fits, objects}
 use Rattle.image.specs.Changes.{retitle, entryOf, enter, occur, occurs}
 use Rattle.image.proofs.Facts.{Sound, fits-room}
 use Rattle.image.proofs.Objects.{length-objects}

@@ -13,7 +13,8 @@ use lib.Seq.{slice}
 use Rattle.words.specs.Words.{be, over}
 use Rattle.words.proofs.Laws.{length-over, getD-over-lt, getD-over-ge, slice-over, length-put, getD-put-lt, getD-put-ge, be-put, be-same}
 use Rattle.objects.specs.Object.{largestBlock, Object, filemark, block, dataOf}
-use Rattle.image.specs.Image.{trailerLength, entryLength, entryPlace, count, flags, directory, size, entry, topBit, low31, endAt, follows, ordered, objectAt, objects, upto}
+use Rattle.objects.specs.Room.{trailerLength, entryLength}
+use Rattle.image.specs.Image.{entryPlace, count, flags, directory, size, entry, topBit, low31, endAt, follows, ordered, objectAt, objects, upto}
 use Rattle.image.specs.Changes.{retitle, entryOf, enter}
 use Rattle.image.proofs.Facts.{Sound, top-block, top-filemark, low-block, low-filemark, follows-block, follows-filemark, ordered-below, ends-grow, entries-in}
 use Rattle.image.proofs.Alike.{Agree, slice-agree, alike-end, alike-ordered, alike-object}

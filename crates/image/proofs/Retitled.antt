@@ -8,7 +8,8 @@ use native.Mathlib.Omega.{arith}
 use lib.ListN.{length, getD}
 use Rattle.words.specs.Words.{be, bytes, over}
 use Rattle.words.proofs.Laws.{Outside, length-bytes, length-put, be-put, be-put-lt, be-put-ge, getD-over-out}
-use Rattle.image.specs.Image.{leastLength, trailerLength, entryLength}
+use Rattle.objects.specs.Room.{trailerLength, entryLength}
+use Rattle.image.specs.Image.{leastLength}
 use Rattle.image.specs.Changes.{retitle}
 
 -- the trailer with N laid down

@@ -13,7 +13,8 @@ use lib.Dec.{eqb}
 use borrow.Author.Tests.{eq-eqb, ne-eqb}
 use Rattle.words.specs.Words.{be, bytes, over}
 use Rattle.words.proofs.Laws.{Outside, length-bytes, length-put, be-put, be-put-lt, be-put-ge, getD-put-lt, getD-over-out}
-use Rattle.image.specs.Image.{leastLength, mostLength, trailerLength, entryLength, flagBits, count, flags, protected, directory, size, endAt, ordered, objectAt, objects, upto}
+use Rattle.objects.specs.Room.{trailerLength, entryLength}
+use Rattle.image.specs.Image.{leastLength, mostLength, flagBits, count, flags, protected, directory, size, endAt, ordered, objectAt, objects, upto}
 use Rattle.image.specs.Changes.{retitle, reflag, protect, blank}
 use Rattle.image.proofs.Facts.{Sound, ends-in, entries-in}
 use Rattle.image.proofs.Alike.{Agree, alike-end, alike-ordered, alike-object}

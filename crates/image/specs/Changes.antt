@@ -8,7 +8,8 @@ use lib.ListN.{length}
 use Rattle.words.specs.Words.{bytes, over, zeros}
 use Rattle.objects.specs.Object.{Object, filemark, block, dataOf}
 use Rattle.objects.specs.Events.{Event, put, cut}
-use Rattle.image.specs.Image.{trailerLength, entryLength, entryPlace, count, flags, directory, endAt}
+use Rattle.objects.specs.Room.{trailerLength, entryLength}
+use Rattle.image.specs.Image.{entryPlace, count, flags, directory, endAt}
 
 -- the trailer's N and D for n objects, in an image of l bytes: D = L − 16 − 4N
 unfoldable pub retitle : ℕ → ℕ → List ℕ → List ℕ

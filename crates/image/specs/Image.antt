@@ -8,6 +8,7 @@ use lib.Seq.{slice}
 use lib.Dec.{leb, ltb, eqb}
 use Rattle.words.specs.Words.{be}
 use Rattle.objects.specs.Object.{Object, filemark, block, largestBlock}
+use Rattle.objects.specs.Room.{trailerLength, entryLength, usedOf, roomOf, fitsIn, zoneIn}
 
 -- ---- the numbers of 01, each once
 
@@ -18,21 +19,9 @@ leastLength = 64
 abbrev pub mostLength : ℕ
 mostLength = 1073741824
 
--- "The last 16 bytes are a trailer"
-abbrev pub trailerLength : ℕ
-trailerLength = 16
-
--- "The entry of object i is the four bytes at ..": an object needs them beside its data
-abbrev pub entryLength : ℕ
-entryLength = 4
-
 -- "bit 0 = protected, others 0": how many flag bits have a meaning
 abbrev pub flagBits : ℕ
 flagBits = 1
-
--- "room × 16 < L − 16": the share of the image that the early warning leaves
-abbrev pub warningShare : ℕ
-warningShare = 16
 
 -- ---- the trailer: N, flags, D, L, four bytes each
 
@@ -99,25 +88,7 @@ sound s =
     && ordered s (count s)
     && leb (endAt s (count s)) (directory s)
 
--- ---- room, by the length L, a number n and the end e = end(n)
-
--- U(n) = 4n + end(n)
-abbrev pub usedOf : ℕ → ℕ → ℕ
-usedOf n e = entryLength * n + e
-
--- room at n = L − 16 − U(n)
-abbrev pub roomOf : ℕ → ℕ → ℕ → ℕ
-roomOf l n e = l - trailerLength - usedOf n e
-
--- "An object needs 4 bytes and its data": one with k bytes of data fits in the room r
-abbrev pub fitsIn : ℕ → ℕ → Bool
-fitsIn r k = leb (entryLength + k) r
-
--- "in the early-warning zone if room × 16 < L − 16"
-abbrev pub zoneIn : ℕ → ℕ → Bool
-zoneIn l r = ltb (r * warningShare) (l - trailerLength)
-
--- the same of an image
+-- ---- room, of an image
 unfoldable pub used : List ℕ → ℕ → ℕ
 used s n = usedOf n (endAt s n)
 

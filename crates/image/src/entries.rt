@@ -2,7 +2,8 @@
 ghost use mathlib.Core.Path.{_≡_};
 ghost use Prim.Native.Nat.{_+_, _*_, _≤_, _<_, _^_};
 ghost use lib.ListN.{length};
-ghost use Rattle.image.specs.Image.{mostLength, trailerLength, entryLength, count, flags, entry, topBit, low31, endAt, room, fits, zone, filemarksBefore};
+ghost use Rattle.objects.specs.Room.{trailerLength, entryLength};
+ghost use Rattle.image.specs.Image.{mostLength, count, flags, entry, topBit, low31, endAt, room, fits, zone, filemarksBefore};
 use words::be32_at;
 
 // The trailer's length, and an entry's.

@@ -2,7 +2,8 @@
 ghost use mathlib.Core.Path.{_≡_};
 ghost use Prim.Native.Nat.{_+_, _*_, _≤_};
 ghost use lib.ListN.{length};
-ghost use Rattle.image.specs.Image.{trailerLength, entryLength, follows, ordered, rightLength, sound};
+ghost use Rattle.objects.specs.Room.{trailerLength, entryLength};
+ghost use Rattle.image.specs.Image.{follows, ordered, rightLength, sound};
 ghost use Rattle.image.specs.Services.{faultOf};
 use crate::entries::ENTRY;
 use crate::entries::TRAILER;

@@ -11,7 +11,8 @@ use native.Mathlib.Omega.{arith}
 use lib.ListN.{length, length-append}
 use lib.Seq.{length-slice}
 use Rattle.objects.specs.Object.{Object}
-use Rattle.image.specs.Image.{trailerLength, entryLength, count, entry, topBit, endAt, room, objectAt, upto}
+use Rattle.objects.specs.Room.{trailerLength, entryLength}
+use Rattle.image.specs.Image.{count, entry, topBit, endAt, room, objectAt, upto}
 use Rattle.image.proofs.Tests.{cases}
 use Rattle.image.proofs.Facts.{entries-in}
 use Rattle.image.proofs.Objects.{length-upto}

@@ -10,7 +10,8 @@ use mathlib.Core.List.{List, [], _∷_}
 use lib.ListN.{length, drop, drop-of-length-le}
 use Rattle.objects.specs.Object.{Object, filemark, block, isFilemark}
 use Rattle.objects.specs.Movement.{Code, blocks, filemarks, Why, done, marked, edge, Walk, walk, halt, uncounted, counting, before}
-use Rattle.image.specs.Image.{trailerLength, entryLength, count, entry, topBit, sound, objectAt, objects}
+use Rattle.objects.specs.Room.{trailerLength, entryLength}
+use Rattle.image.specs.Image.{count, entry, topBit, sound, objectAt, objects}
 use Rattle.image.proofs.Facts.{sound-parts}
 use Rattle.image.proofs.Objects.{length-objects, ahead-step, behind-step, object-filemark}
 

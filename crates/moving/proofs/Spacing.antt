@@ -13,7 +13,7 @@ use lib.ListN.{drop, length-drop}
 use Rattle.words.specs.Signed.{wrapped}
 use Rattle.words.proofs.Wraps.{subℕ-cases}
 use Rattle.objects.specs.Object.{Object}
-use Rattle.objects.specs.Movement.{Code, blocks, filemarks, done, marked, edge, Walk, walk, before, Move, ahead, astern, space, residue}
+use Rattle.objects.specs.Movement.{Code, blocks, filemarks, done, marked, edge, Walk, walk, before, Move, ahead, astern, space, residue, toEndOfData}
 use Rattle.objects.proofs.Walk.{walk-within, length-before}
 use Rattle.image.specs.Image.{count, sound, objects}
 use Rattle.image.proofs.Facts.{sound-parts}
@@ -27,7 +27,7 @@ use Rattle.motion.specs.declared.Why.the-variants.{Done, Marked, Edge}
 use Rattle.motion.specs.declared.Walked.{Walked}
 use Rattle.motion.specs.Motion.{walkOf, whyOf}
 use Rattle.commands.specs.declared.deeds.Left.{Left}
-use Rattle.commands.specs.Act.{Seen, carrying, good, checked, at, moved, spaceTells, filemarkMet, endMet, beginningMet, overBlocks, spacing}
+use Rattle.commands.specs.Act.{Seen, carrying, good, checked, at, moved, spaceTells, filemarkMet, endMet, beginningMet, overBlocks, movement, spacing}
 use Rattle.commands.specs.Call.{seenOf}
 use Rattle.commands.specs.Left.{leftBy}
 
@@ -149,11 +149,11 @@ module _ (d : Drive) (s : List ℕ) (c : Code) (n : ℕ) (asked : 0 < n) (w : Wa
 
 module _ (d : Drive) (cmd s : List ℕ) (code : ℕ) (ec : code ≡ spaceCodeOf cmd) (r : Left) where
   pub spaced-to-end : code ≡ 3 → (n : ℕ) → n ≡ count s → (f : Drive) → f ≡ at d n → r ≡ leftBy (carrying 0 (good f)) → r ≡ leftBy (spacing d cmd (seenOf s))
-  unfolding spacing seenOf
+  unfolding spacing movement toEndOfData spaceTells seenOf
   spaced-to-end h n en f there q = q ∙ rw (there, en, ← ec, eq-eqb code 3 h, length-objects s) refl
 
   pub spaced : (code ≡ 3 → ⊥) → (z : ℤ) → z ≡ spaceCountOf cmd → (k : ℤ) → z ≡ k
       → r ≡ leftBy (moved d (seenOf s) k (space (cond (eqb code overBlocks) blocks filemarks) k (d .position) (objects s)))
       → r ≡ leftBy (spacing d cmd (seenOf s))
-  unfolding spacing seenOf
+  unfolding spacing movement seenOf
   spaced h z ez k e q = q ∙ rw (← e, ez, ← ec, ne-eqb code 3 h) refl

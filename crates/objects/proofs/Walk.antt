@@ -3,12 +3,14 @@
 use Prim.Native.Nat.{ℕ, zero, suc, _-_, _≤_, _<_, zero-le, suc-le-suc, max, min}
 use native.Mathlib.Nat.{not-suc-le-zero, le-of-suc-le-suc, add-zero}
 use native.Mathlib.Omega.{arith}
-use mathlib.Core.Path.{_≡_, refl, ap, _∙_}
+use mathlib.Core.Path.{_≡_, refl, sym, ap, _∙_, subst}
+use mathlib.Core.Bool.{Bool, true, false, cond}
 use mathlib.Core.List.{List, [], _∷_}
+use lib.Dec.{T, leb, leb→le}
 use lib.ListN.{length, drop, getD, length-drop}
 use lib.IntN.{ℤ, pos, negsuc}
 use Rattle.objects.specs.Object.{Object, filemark, block}
-use Rattle.objects.specs.Movement.{Code, blocks, filemarks, done, walk, before, ahead, astern, space}
+use Rattle.objects.specs.Movement.{Code, blocks, filemarks, done, edge, walk, before, ahead, astern, space, straight, toEndOfData, toObject}
 
 -- a walk crosses nothing that does not lie ahead
 pub walk-within : (c : Code) (n : ℕ) (xs : List Object) → (walk c n xs) .crossed ≤ length xs
@@ -93,3 +95,17 @@ pub still : (c : Code) (p : ℕ) (xs : List Object)
     → space c (pos zero) p xs ≡ record { to = p; moved = pos zero; why = done; distance = zero }
 unfolding space ahead walk
 still c p xs = rw (add-zero p)
+
+-- ---- straight to a number
+
+pub went-end : (p : ℕ) (xs : List Object) → p ≤ length xs → Went p ((toEndOfData p xs) .to) ((toEndOfData p xs) .distance) (length xs)
+unfolding toEndOfData
+went-end p xs h = record { apart = omega arith; within = omega arith; stays = omega arith }
+
+pub went-object : (p k : ℕ) (xs : List Object) → p ≤ length xs → Went p ((toObject p k xs) .to) ((toObject p k xs) .distance) (length xs)
+unfolding toObject
+went-object p k xs h = go (leb k (length xs)) refl
+  where
+    go : (t : Bool) → leb k (length xs) ≡ t → Went p ((cond t (straight p k done) (straight p (length xs) edge)) .to) ((cond t (straight p k done) (straight p (length xs) edge)) .distance) (length xs)
+    go true e = let l = leb→le k (length xs) (subst T (sym e) tt) in record { apart = omega arith; within = omega arith; stays = omega arith }
+    go false e = record { apart = omega arith; within = omega arith; stays = omega arith }

@@ -1,3 +1,4 @@
 pub mod Object
 pub mod Movement
 pub mod Events
+pub mod Room

@@ -1,8 +1,10 @@
--- The movement of SPACE (01, "What each command does"): one walk over what lies ahead, in either direction.
+-- The movements of SPACE and LOCATE (01, "What each command does"): one walk over what lies ahead, in either direction; and straight to a number.
 -- Assumes nothing: these are definitions.
 use Prim.Native.Nat.{ℕ, zero, suc, _+_, _-_}
+use mathlib.Core.Bool.{cond}
 use mathlib.Core.List.{List, [], _∷_}
-use lib.ListN.{drop, getD}
+use lib.Dec.{leb}
+use lib.ListN.{length, drop, getD}
 use lib.IntN.{ℤ, pos, negsuc, negℤ, _-ℤ_}
 use Rattle.objects.specs.Object.{Object, filemark, block}
 
@@ -67,3 +69,17 @@ space c (negsuc n) p xs = astern p (walk c (suc n) (before p xs))
 -- count − signed movement of what is counted
 unfoldable pub residue : ℤ → Move → ℤ
 residue k m = k -ℤ m .moved
+
+-- ---- straight to a number
+
+-- to q, from p, for w; nothing is counted on the way
+abbrev pub straight : ℕ → ℕ → Why → Move
+straight p q w = record { to = q; moved = pos 0; why = w; distance = (p - q) + (q - p) }
+
+-- SPACE to end of data
+unfoldable pub toEndOfData : ℕ → List Object → Move
+toEndOfData p xs = straight p (length xs) done
+
+-- LOCATE: to object k, or to end of data where it lies above
+unfoldable pub toObject : ℕ → ℕ → List Object → Move
+toObject p k xs = cond (leb k (length xs)) (straight p k done) (straight p (length xs) edge)

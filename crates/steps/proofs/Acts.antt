@@ -11,7 +11,8 @@ use lib.IntN.{ℤ, subℕ}
 use lib.ListN.{length, take}
 use Rattle.words.specs.Words.{over}
 use Rattle.objects.specs.Object.{Object, bytesIn}
-use Rattle.image.specs.Image.{protected, roomOf, zoneIn}
+use Rattle.objects.specs.Room.{roomOf, zoneIn}
+use Rattle.image.specs.Image.{protected}
 use Rattle.image.specs.Changes.{occurs}
 use Rattle.record.specs.declared.drive.Drive.{Drive}
 use Rattle.record.specs.Record.{loadedAnew, unloaded}
@@ -76,11 +77,11 @@ marking-none d cmd sent v = either (eqb (transferOf cmd) 0) _ _ refl (wrote-none
 
 spacing-none : (d : Drive) (cmd : List ℕ) (v : Seen) → (spacing d cmd v) .received ≡ []
 unfolding spacing
-spacing-none d cmd v = either (eqb (spaceCodeOf cmd) toEnd) _ _ refl refl
+spacing-none d cmd v = refl
 
 locating-none : (d : Drive) (cmd : List ℕ) (v : Seen) → (locating d cmd v) .received ≡ []
 unfolding locating
-locating-none d cmd v = either (leb (objectOf cmd) (length (v .objects))) _ _ refl refl
+locating-none d cmd v = refl
 
 selecting-none : (d : Drive) (cmd sent : List ℕ) → (selecting d cmd sent) .received ≡ []
 unfolding selecting

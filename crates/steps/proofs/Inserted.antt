@@ -8,7 +8,8 @@ use mathlib.Core.List.{List}
 use borrow.Author.Tests.{ne-eqb, not-true, not-false}
 use lib.Dec.{leb}
 use lib.ListN.{length}
-use Rattle.image.specs.Image.{trailerLength, count, sound}
+use Rattle.objects.specs.Room.{trailerLength}
+use Rattle.image.specs.Image.{count, sound}
 use Rattle.image.proofs.Facts.{sound-parts}
 use Rattle.record.specs.declared.drive.Drive.{Drive}
 use Rattle.record.specs.Record.{wellFormed}

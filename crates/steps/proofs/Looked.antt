@@ -9,7 +9,8 @@ use borrow.Author.Tests.{eq-eqb, ne-eqb, eqb-true, leb-true, leb-false, lt-ltb, 
 use lib.Dec.{eqb, leb, ltb}
 use lib.ListN.{length}
 use Rattle.objects.specs.Object.{largestBlock}
-use Rattle.image.specs.Image.{trailerLength, count, sound, protected}
+use Rattle.objects.specs.Room.{trailerLength}
+use Rattle.image.specs.Image.{count, sound, protected}
 use Rattle.image.proofs.Facts.{sound-parts}
 use Rattle.image.proofs.Tests.{both}
 use Rattle.record.specs.declared.drive.Drive.{Drive}

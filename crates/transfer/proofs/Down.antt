@@ -11,7 +11,8 @@ use lib.ListN.{length, drop, length-drop}
 use lib.Seq.{length-take-le}
 use Rattle.objects.specs.Object.{Object, dataOf, bytesIn, largestBlock}
 use Rattle.objects.specs.Events.{put}
-use Rattle.image.specs.Image.{roomOf, fitsIn, count, endAt, room, fits}
+use Rattle.objects.specs.Room.{roomOf, fitsIn}
+use Rattle.image.specs.Image.{count, endAt, room, fits}
 use Rattle.image.specs.Changes.{occur, occurs}
 use Rattle.image.proofs.Facts.{Sound, ends-in}
 use Rattle.image.proofs.Placed.{Kept}

@@ -10,7 +10,8 @@ use mathlib.Core.List.{List, [], _∷_}
 use lib.ListN.{length}
 use Rattle.objects.specs.Object.{Object, filemark, dataOf}
 use Rattle.objects.specs.Events.{put}
-use Rattle.image.specs.Image.{trailerLength, entryLength, mostLength, roomOf, fitsIn, count, endAt, room, fits, sound}
+use Rattle.objects.specs.Room.{trailerLength, entryLength, roomOf, fitsIn}
+use Rattle.image.specs.Image.{mostLength, count, endAt, room, fits, sound}
 use Rattle.image.specs.Changes.{occur, occurs}
 use Rattle.image.proofs.Facts.{Sound, sound-parts, entries-in}
 use Rattle.image.proofs.Placed.{Kept}

@@ -14,7 +14,8 @@ use borrow.Author.Tests.{eq-eqb, ne-eqb}
 use Rattle.words.specs.Words.{over}
 use Rattle.words.proofs.Laws.{length-over, over-over, over-nil, part-is}
 use Rattle.objects.specs.Object.{Object, filemark, block}
-use Rattle.image.specs.Image.{trailerLength, entryLength, count, entry, topBit, endAt, objectAt, objects, sound}
+use Rattle.objects.specs.Room.{trailerLength, entryLength}
+use Rattle.image.specs.Image.{count, entry, topBit, endAt, objectAt, objects, sound}
 use Rattle.image.proofs.Facts.{sound-parts, ordered-below, ends-grow, ends-in, entries-in}
 use Rattle.image.proofs.Objects.{length-objects, ahead-step}
 use Rattle.transfer.specs.Transfer.{Ended, whole, oddLength, atFilemark, atEnd, Run, halted, after, runOf}

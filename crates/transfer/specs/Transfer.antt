@@ -7,7 +7,7 @@ use lib.Dec.{eqb}
 use lib.ListN.{length, take, drop}
 use Rattle.objects.specs.Object.{Object, filemark, block, dataOf}
 use Rattle.objects.specs.Events.{Event, put}
-use Rattle.image.specs.Image.{roomOf, fitsIn}
+use Rattle.objects.specs.Room.{roomOf, fitsIn}
 
 -- ---- FIXED reading: "reads whole blocks of the set length"
 

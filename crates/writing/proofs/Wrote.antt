@@ -12,7 +12,8 @@ use lib.IntN.{ℤ, subℕ}
 use lib.ListN.{length, take}
 use Rattle.objects.specs.Object.{Object, block, bytesIn, largestBlock}
 use Rattle.objects.specs.Events.{cut}
-use Rattle.image.specs.Image.{roomOf, zoneIn, count, endAt, room, zone, objects, sound}
+use Rattle.objects.specs.Room.{roomOf, zoneIn}
+use Rattle.image.specs.Image.{count, endAt, room, zone, objects, sound}
 use Rattle.image.specs.Changes.{occur, occurs, cleared}
 use Rattle.image.proofs.Facts.{sound-parts, sound-of}
 use Rattle.image.proofs.Objects.{end-bytes}

@@ -6,7 +6,8 @@ use native.Mathlib.Omega.{arith}
 use lib.Dec.{ltb}
 use lib.ListN.{length}
 use borrow.Author.Needs.{needs}
-use Rattle.image.specs.Image.{room, zone, warningShare, trailerLength}
+use Rattle.objects.specs.Room.{warningShare, trailerLength}
+use Rattle.image.specs.Image.{room, zone}
 use Rattle.image.proofs.entries.in_zone.Statement.{statement}
 use Rattle.image.proofs.entries.in_zone.Tie as tie
 
