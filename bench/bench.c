@@ -1,12 +1,12 @@
 /* bench.c: times the library's services against plain C on the same bytes, as ratios measured in one run. */
 #define _DEFAULT_SOURCE
-#include "stormtoggle.h"
+#include "plain.h"
 #include <stdio.h>
 #include <stdlib.h>
 #include <string.h>
 #include <time.h>
 
-enum { TRAILER = 16, ENTRY = 4, RECORD = STORMTOGGLE_RECORD_LENGTH, TILE = 32768, ROUNDS = 7 };
+enum { TILE = 32768, WORKS = 3, ROUNDS = 61 };
 
 /* What a loop computes goes here, so that no compiler leaves it out. */
 static volatile uint64_t sink;
@@ -24,21 +24,6 @@ struct image {
     uint8_t *at;
     size_t length;
 };
-
-static void put32(uint8_t *at, uint32_t value)
-{
-    at[0] = (uint8_t)(value >> 24);
-    at[1] = (uint8_t)(value >> 16);
-    at[2] = (uint8_t)(value >> 8);
-    at[3] = (uint8_t)value;
-}
-
-static uint32_t get32(const uint8_t *at)
-{
-    uint32_t word;
-    memcpy(&word, at, sizeof word);
-    return __builtin_bswap32(word);
-}
 
 /* n objects, each a block of so many bytes, but every k-th a filemark (none if k is 0), with room for `spare` bytes more. */
 static struct image make_image(uint32_t n, uint32_t bytes, uint32_t k, size_t spare)
@@ -62,22 +47,7 @@ static struct image make_image(uint32_t n, uint32_t bytes, uint32_t k, size_t sp
 
 /* ---- plain C, as one would write it */
 
-__attribute__((noinline)) static int plain_sound(const uint8_t *s, size_t length)
-{
-    uint32_t n = get32(s + length - 16), d = get32(s + length - 8), before = 0;
-    int ok = get32(s + length - 4) == length && get32(s + length - 12) <= 1;
-    if ((uint64_t)d + (uint64_t)ENTRY * n + TRAILER != length)
-        return 0;
-    for (uint32_t i = 0; i < n; i++) {
-        uint32_t entry = get32(s + length - TRAILER - ENTRY * ((size_t)i + 1)), end = entry & 0x7fffffff;
-        if (entry >> 31)
-            ok &= end == before;
-        else
-            ok &= end > before && end - before <= 65536;
-        before = end;
-    }
-    return ok && before <= d;
-}
+__attribute__((noinline)) static int plain_sound(const uint8_t *s, size_t length) { return sound(s, length); }
 
 __attribute__((noinline)) static uint64_t plain_sum(const uint8_t *s, size_t length)
 {
@@ -187,45 +157,102 @@ static void space_filemarks(void)
 
 static void plain_space(void) { sink = plain_filemarks(image.at, image.length, 100000); }
 
-/* The shortest of several rounds, each long enough for the clock. */
-static double took(void (*work)(void))
+/* A command without data, by the library or by plain C: called through a pointer, so that no compiler sees which or what. */
+typedef uint64_t service(uint8_t *, size_t, const uint8_t *, size_t, uint8_t *, size_t, uint8_t *, size_t, const uint8_t *,
+                         size_t, uint8_t *, size_t);
+static service *volatile library = stormtoggle_command, *volatile plain = plain_command;
+static uint8_t asked[10];
+static size_t asked_length;
+
+static void serve(service *by)
 {
-    double best = 1e18;
-    int repeat = 1;
-    for (int round = 0; round < ROUNDS; round++) {
-        double began = now(), spent;
-        for (int i = 0; i < repeat; i++)
-            work();
-        spent = now() - began;
-        if (spent < 2e6 && repeat < 1 << 20) {
-            repeat *= 4;
-            round--;
-            continue;
-        }
-        if (spent / repeat < best)
-            best = spent / repeat;
-    }
-    return best;
+    sink = by(record, RECORD, asked, asked_length, image.at, image.length, NULL, 0, NULL, 0, tile, sizeof tile);
 }
 
-static void row(const char *what, double ours, const char *than, double plain)
+static void library_serves(void) { serve(library); }
+static void plain_serves(void) { serve(plain); }
+
+/* ---- the clock */
+
+static double spent(void (*work)(void), int repeat)
 {
-    printf("%-58s %12.0f %-32s %12.0f %7.2f\n", what, ours, than, plain, ours / plain);
+    double began = now();
+    for (int i = 0; i < repeat; i++)
+        work();
+    return now() - began;
+}
+
+/* What each of some works took: the shortest of many rounds, each long enough for the clock. Their rounds take turns, so that a
+ * busy machine slows all of them or none. */
+static void took(int n, void (*const work[])(void), double best[])
+{
+    int repeat[WORKS];
+    for (int i = 0; i < n; i++) {
+        best[i] = 1e18;
+        for (repeat[i] = 1; spent(work[i], repeat[i]) < 1e6 && repeat[i] < 1 << 20;)
+            repeat[i] *= 2;
+    }
+    for (int round = 0; round < ROUNDS; round++)
+        for (int i = 0; i < n; i++) {
+            double each = spent(work[i], repeat[i]) / repeat[i];
+            best[i] = each < best[i] ? each : best[i];
+        }
+}
+
+static void row(const char *what, double ours, const char *than, double other)
+{
+    int digits = ours < 1000 ? 1 : 0;
+    printf("%-58s %12.*f %-32s %12.*f %7.2f\n", what, digits, ours, than, digits, other, ours / other);
+}
+
+static void compare(const char *what, void (*ours)(void), const char *than, void (*other)(void))
+{
+    double best[2];
+    took(2, (void (*const[])(void)){ours, other}, best);
+    row(what, best[0], than, best[1]);
 }
 
 static void passes(uint32_t n, uint32_t k, const char *what)
 {
-    double ours, plain, sum;
+    double best[3];
     image = make_image(n, 1, k, 0);
-    ours = took(ours_pass), plain = took(plain_pass), sum = took(sum_pass);
-    row(what, ours, "plain C", plain);
-    row("", ours, "a plain sum over the directory", sum);
+    took(3, (void (*const[])(void)){ours_pass, plain_pass, sum_pass}, best);
+    row(what, best[0], "plain C", best[1]);
+    row("", best[0], "a plain sum over the directory", best[2]);
     free(image.at);
+}
+
+/* The same command by both, which must leave the same record, bytes and answer. */
+static void small(uint8_t code, size_t length, const char *what)
+{
+    uint8_t before[RECORD], left[RECORD], data[32];
+    uint64_t answer;
+    memset(asked, 0, sizeof asked);
+    asked[0] = code;
+    asked_length = length;
+    memcpy(before, record, RECORD);
+    library_serves();
+    answer = sink;
+    memcpy(left, record, RECORD), memcpy(data, tile, sizeof data);
+    memcpy(record, before, RECORD);
+    plain_serves();
+    if (sink != answer || memcmp(left, record, RECORD) != 0 || memcmp(data, tile, sizeof data) != 0)
+        abort();
+    compare(what, library_serves, "plain C", plain_serves);
+}
+
+/* A transfer of a block against the same pass and a memcpy, and both without the pass. */
+static void transfer(void (*ours)(void), void (*copy)(void), const char *what, const char *alone)
+{
+    double best[3];
+    took(3, (void (*const[])(void)){ours, copy, ours_pass}, best);
+    row(what, best[0], "the pass and a memcpy", best[1]);
+    row(alone, best[0] - best[2], "memcpy", best[1] - best[2]);
 }
 
 int main(void)
 {
-    double pass, ours, plain;
+    double best[3];
     printf("%-58s %12s %-32s %12s %7s\n", "the library", "ns", "against", "ns", "ratio");
     passes(32768, 0, "soundness, 32,768 entries, no filemarks");
     passes(32768, 16, "soundness, 32,768 entries, one filemark in sixteen");
@@ -234,32 +261,35 @@ int main(void)
     passes(8000000, 16, "soundness, 8,000,000 entries, one filemark in sixteen");
     passes(8000000, 2, "soundness, 8,000,000 entries, half of them filemarks");
 
+    image = make_image(1, 1, 0, 64);
+    mount(&image);
+    small(0x00, 6, "TEST UNIT READY, one object");
+    put_position(1);
+    small(0x34, 10, "READ POSITION, one object");
+    free(image.at);
+
     image = make_image(32768, 1, 16, 0);
     mount(&image);
-    row("TEST UNIT READY, 32,768 objects", took(test_unit_ready), "its pass", took(ours_pass));
+    compare("TEST UNIT READY, 32,768 objects", test_unit_ready, "its pass", ours_pass);
     free(image.at);
 
     image = make_image(20000, TILE, 0, (size_t)2 * TILE + 64);
     mount(&image);
-    pass = took(ours_pass);
-    ours = took(read_tile), plain = took(pass_and_copy_out);
-    row("READ of 32 KiB among 20,000 objects", ours, "the pass and a memcpy", plain);
-    row("READ of 32 KiB, without the pass", ours - pass, "memcpy", plain - pass);
-    ours = took(write_tile), plain = took(pass_and_copy_in);
-    row("WRITE of 32 KiB behind 20,000 objects", ours, "the pass and a memcpy", plain);
-    row("WRITE of 32 KiB, without the pass", ours - pass, "memcpy", plain - pass);
+    transfer(read_tile, pass_and_copy_out, "READ of 32 KiB among 20,000 objects", "READ of 32 KiB, without the pass");
+    transfer(write_tile, pass_and_copy_in, "WRITE of 32 KiB behind 20,000 objects", "WRITE of 32 KiB, without the pass");
     free(image.at);
 
     blocks = calloc(256, TILE);
     image = make_image(0, 0, 0, (size_t)257 * (TILE + ENTRY));
     mount(&image);
     put32(record + STORMTOGGLE_RECORD_BLOCK_LENGTH, TILE);
-    row("WRITE FIXED of 256 blocks of 32 KiB", took(write_256), "memcpy", took(copy_256));
+    compare("WRITE FIXED of 256 blocks of 32 KiB", write_256, "memcpy", copy_256);
     free(image.at);
 
     image = make_image(200000, 1, 2, 0);
     mount(&image);
-    row("SPACE over 100,000 filemarks, with the pass", took(space_filemarks), "pass and plain C", took(plain_space) + took(plain_pass));
+    took(3, (void (*const[])(void)){space_filemarks, plain_space, plain_pass}, best);
+    row("SPACE over 100,000 filemarks, with the pass", best[0], "pass and plain C", best[1] + best[2]);
     free(image.at);
     free(blocks);
     return 0;

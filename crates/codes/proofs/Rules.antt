@@ -1,47 +1,59 @@
--- Rules of the tables, each computed once over the whole of it, and the laws that the code's tests cite.
+-- The laws that the code's tests cite: the row of an operation code, a command block's length, its masks.
 -- Assumes nothing.
 use mathlib.Core.Path.{_≡_, refl, sym, ap, _∙_}
 use mathlib.Core.Bool.{Bool, true, false, cond, _&&_, _||_}
-use mathlib.Core.List.{List}
-use Prim.Native.Nat.{ℕ, suc, _+_, _*_, _-_, _/_, _%_, _<_, _≤_}
+use mathlib.Core.List.{List, [], _∷_, _++_}
+use Prim.Native.Nat.{ℕ, zero, suc, _+_, _-_, _<_, _≤_}
+use native.Mathlib.Nat.{not-suc-le-zero}
 use native.Mathlib.Numerals.{add-one}
 use native.Mathlib.Omega.{arith}
-use borrow.Author.Tests.{eq-eqb, ne-eqb, lt-ltb, leb-true, eqb-false, ltb-false}
+use borrow.Author.Tests.{eq-eqb, ne-eqb, leb-true, eqb-true, eqb-false, ltb-false}
 use lib.Bits.{bitAnd}
 use lib.Dec.{eqb, leb, ltb}
-use lib.ListN.{length, getD, replicate, getD-replicate, List·getD-eq-default}
+use lib.ListN.{length, getD, replicate, getD-replicate}
+use lib.Seq.{getD-take}
 use Rattle.codes.specs.declared.operation.Operation.{Operation}
 use Rattle.codes.specs.declared.operation.Operation.the-variants.{TestUnitReady, Rewind, RequestSense, ReadBlockLimits, Read, Write, WriteFilemarks, Space, ModeSelect, Erase, ModeSense, LoadUnload, Locate, ReadPosition, NotServed}
-use Rattle.codes.specs.Codes.{numberOf, operationOf, Row, rows, noRow, lengthOf, codeOf, tooShort, rowOf, operationAt, maskAt, inMasks}
+use Rattle.codes.specs.Codes.{lengthOf, codeOf, tooShort, numberOf, Row, rows, noRow, find, rowOf, operationOf, masksOf, maskCount, spread, inMasks, masksHold}
 use Rattle.codes.proofs.Table.{tab, rule}
 
--- ---- a served command has 2 to 10 bytes, and its row is below 14 (no row is above): 1 at each code where that is so
+-- ---- the row of an operation code
 
-fair : ℕ → ℕ
-fair op = cond (leb (rowOf op) 14) (cond (ltb (rowOf op) 14) (cond (leb 2 (lengthOf op)) (cond (leb (lengthOf op) 10) 1 0) 0) 1) 0
+-- what is known of a number that is none of the rows', said as a `match` says it: one number after the other
+abbrev pub Past : List Row → ℕ → Type 0 → Type 0
+Past [] op A = A
+Past (r ∷ rs) op A = Past rs op (A × (op ≡ numberOf (r .operation) → ⊥))
 
-fair-all : tab fair 256 0 ≡ replicate 256 1
-unfolding fair
-fair-all = refl
+first-known : (rs : List Row) (op : ℕ) (A : Type 0) → Past rs op A → A
+first-known [] op A h = h
+first-known (r ∷ rs) op A h = first-known rs op (A × (op ≡ numberOf (r .operation) → ⊥)) h .0
 
-at-one : (n k : ℕ) → k < n → _≡_ {A = ℕ} (getD (replicate n 1) k 0) 1
-at-one n k h = getD-replicate n k 1 0 h
+none-found : (rs : List Row) (op : ℕ) (A : Type 0) → Past rs op A → noRow ≡ find rs op
+none-found [] op A h = refl
+none-found (r ∷ rs) op A h =
+    let B : Type 0 = A × (op ≡ numberOf (r .operation) → ⊥) in
+    let n : numberOf (r .operation) ≡ op → ⊥ = λ e. first-known rs op B h .1 (sym e) in
+    rw (ne-eqb (numberOf (r .operation)) op n) (none-found rs op B h)
 
-fair-at : (op : ℕ) → op < 256 → fair op ≡ 1
-fair-at op h = sym (rule fair 256 op h) ∙ ap (λ (l : List ℕ). getD l op 0) fair-all ∙ at-one 256 op h
+-- in the code's matches: an arm for a code, and the last
+pub arm : {A : Type 0} (f : Row → A) {op n : ℕ} {x : A} → op ≡ n → x ≡ f (rowOf n) → x ≡ f (rowOf op)
+arm f e q = q ∙ ap (λ (k : ℕ). f (rowOf k)) (sym e)
 
-by-tests : (a b c d : Bool) → _≡_ {A = ℕ} (cond a (cond b (cond c (cond d 1 0) 0) 1) 0) 1 → b ≡ true → (c ≡ true) × (d ≡ true)
-by-tests true true true true h e = (refl, refl)
-by-tests true true true false h e = absurd (let z : _≡_ {A = ℕ} 0 1 = h in omega arith)
-by-tests true true false d h e = absurd (let z : _≡_ {A = ℕ} 0 1 = h in omega arith)
-by-tests true false c d h e = absurd (let z : _≡_ {A = ℕ} 0 1 = cc in omega arith)
-by-tests false b c d h e = absurd (let z : _≡_ {A = ℕ} 0 1 = h in omega arith)
+pub last-arm : {A : Type 0} (f : Row → A) {op : ℕ} → Past rows op (Unit {0}) → f noRow ≡ f (rowOf op)
+last-arm f {op} h = ap f (none-found rows op (Unit {0}) h)
 
-pub served-length : (op : ℕ) → op < 256 → rowOf op < 14 → (2 ≤ lengthOf op) × (lengthOf op ≤ 10)
-unfolding fair
-served-length op h r =
-    let t = by-tests (leb (rowOf op) 14) (ltb (rowOf op) 14) (leb 2 (lengthOf op)) (leb (lengthOf op) 10) (fair-at op h) (lt-ltb (rowOf op) 14 r) in
-    (leb-true 2 (lengthOf op) (t .0), leb-true (lengthOf op) 10 (t .1))
+-- a row is found by the number of its operation, or none is
+pub data Found (op : ℕ) (r : Row) : Type 0 where
+  here : numberOf (r .operation) ≡ op → Found op r
+  nowhere : r ≡ noRow → Found op r
+
+pub found : (rs : List Row) (op : ℕ) → Found op (find rs op)
+found [] op = nowhere refl
+found (r ∷ rs) op = by (eqb (numberOf (r .operation)) op) refl (found rs op)
+  where
+    by : (t : Bool) → eqb (numberOf (r .operation)) op ≡ t → Found op (find rs op) → Found op (cond t r (find rs op))
+    by true q f = here (eqb-true (numberOf (r .operation)) op q)
+    by false q f = f
 
 -- ---- a command block that is not too short
 
@@ -64,28 +76,67 @@ long-enough cmd h = by (eqb (length cmd) 0) (ltb (length cmd) (lengthOf (codeOf 
         let some : length cmd ≡ 0 → ⊥ = eqb-false (length cmd) 0 ea in
         (omega arith, ltb-false (length cmd) (lengthOf (codeOf cmd)) eb)
 
+-- no command block is longer than its masks reach: 1 at each code where that is so, computed once over all
+reached : ℕ → ℕ
+reached op = cond (leb (lengthOf op) (maskCount + 1)) 1 0
+
+all-reached : tab reached 256 0 ≡ replicate 256 1
+unfolding reached
+all-reached = refl
+
+at-one : (n k : ℕ) → k < n → _≡_ {A = ℕ} (getD (replicate n 1) k 0) 1
+at-one n k h = getD-replicate n k 1 0 h
+
+pub longest : (op : ℕ) → op < 256 → lengthOf op ≤ maskCount + 1
+unfolding reached
+longest op h = by (leb (lengthOf op) (maskCount + 1)) refl (sym (rule reached 256 op h) ∙ ap (λ (l : List ℕ). getD l op 0) all-reached ∙ at-one 256 op h)
+  where
+    by : (t : Bool) → leb (lengthOf op) (maskCount + 1) ≡ t → _≡_ {A = ℕ} (cond t 1 0) 1 → lengthOf op ≤ maskCount + 1
+    by true q e = leb-true (lengthOf op) (maskCount + 1) q
+    by false q e = absurd (let z : _≡_ {A = ℕ} 0 1 = e in omega arith)
+
 -- ---- masks
 
--- the table holds the masks of 14 rows, nine each
-pub mask-rule : (r k : ℕ) → r < 14 → k < 9 → getD (tab (λ i. maskAt (i / 9) (i % 9)) 126 0) (r * 9 + k) 0 ≡ maskAt r k
-mask-rule r k hr hk =
-    let p : (r * 9 + k) / 9 ≡ r = omega arith in
-    let q : (r * 9 + k) % 9 ≡ k = omega arith in
-    rule (λ i. maskAt (i / 9) (i % 9)) 126 (r * 9 + k) (omega arith) ∙ (λ i. maskAt (p i) (q i))
-
--- one byte more
-pub masks-next : (r : ℕ) (cmd : List ℕ) (k m : ℕ) (ok : Bool) → ok ≡ inMasks r cmd k → m ≡ maskAt r k → ok && eqb (bitAnd (getD cmd (k + 1) 0) m) (getD cmd (k + 1) 0) ≡ inMasks r cmd (k + 1)
+-- one byte more lies within its mask
+pub masks-next : (m cmd : List ℕ) (k : ℕ) → true ≡ inMasks m cmd k → bitAnd (getD cmd (k + 1) 0) (getD m k 0) ≡ getD cmd (k + 1) 0 → true ≡ inMasks m cmd (k + 1)
 unfolding inMasks
-masks-next r cmd k m ok e f = rw (add-one k, e, f) refl
+masks-next m cmd k e f = rw (add-one k) (rw (← e) (sym (eq-eqb _ _ (rw (add-one k) at f))))
 
--- ---- a row that names no command
+-- one that does not decides
+lost : (x : Bool) → false ≡ x && false
+lost true = refl
+lost false = refl
 
-pub no-command : (r : ℕ) → 14 ≤ r → NotServed ≡ operationAt r
-no-command r h = sym (ap (λ (x : Row). x .operation) (List·getD-eq-default rows noRow {n = r} h))
+outside : (m cmd : List ℕ) (k n : ℕ) → k < n → eqb (bitAnd (getD cmd (suc k) 0) (getD m k 0)) (getD cmd (suc k) 0) ≡ false → false ≡ inMasks m cmd n
+unfolding inMasks
+outside m cmd k zero h f = absurd (not-suc-le-zero h)
+outside m cmd k (suc n) h f = by (eqb k n) refl (outside m cmd k n)
+  where
+    by : (t : Bool) → eqb k n ≡ t → (k < n → eqb (bitAnd (getD cmd (suc k) 0) (getD m k 0)) (getD cmd (suc k) 0) ≡ false → false ≡ inMasks m cmd n) → false ≡ inMasks m cmd (suc n)
+    by true q ih = rw (← eqb-true k n q, f) (lost (inMasks m cmd k))
+    by false q ih = rw (← ih (omega (arith, eqb-false k n q)) f) refl
 
--- a number that is none of 0 to k is above k
-pub climb : (k r : ℕ) → k ≤ r → (r ≡ k → ⊥) → suc k ≤ r
-climb k r h n = omega arith
+pub masks-outside : (m cmd : List ℕ) (k n : ℕ) → k < n → (bitAnd (getD cmd (k + 1) 0) (getD m k 0) ≡ getD cmd (k + 1) 0 → ⊥) → false ≡ inMasks m cmd n
+masks-outside m cmd k n h f = outside m cmd k n h (ne-eqb _ _ (rw (add-one k) at f))
+
+-- a mask that a row does not list is 0
+padded : (m : List ℕ) (k j : ℕ) → getD (m ++ replicate j 0) k 0 ≡ getD m k 0
+padded [] k zero = refl
+padded [] zero (suc j) = refl
+padded [] (suc k) (suc j) = padded [] k j
+padded (x ∷ m) zero j = refl
+padded (x ∷ m) (suc k) j = padded m k j
+
+-- so the masks spread out judge as those listed
+spread-alike : (m cmd : List ℕ) (n : ℕ) → n ≤ maskCount → inMasks (spread m) cmd n ≡ inMasks m cmd n
+unfolding inMasks
+spread-alike m cmd zero h = refl
+spread-alike m cmd (suc k) h =
+    rw (spread-alike m cmd k (omega arith), getD-take maskCount (m ++ replicate maskCount 0) k 0 (omega arith), padded m k maskCount) refl
+
+pub masks-judged : (cmd m : List ℕ) (n : ℕ) → m ≡ spread (masksOf (codeOf cmd)) → n ≡ lengthOf (codeOf cmd) → n ≤ maskCount + 1 → inMasks m cmd (n - 1) ≡ masksHold cmd
+unfolding masksHold
+masks-judged cmd m n e f h = rw (e, ← f) (spread-alike (masksOf (codeOf cmd)) cmd (n - 1) (omega arith))
 
 -- ---- an operation's number is its code
 

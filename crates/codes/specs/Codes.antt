@@ -1,11 +1,11 @@
 -- The lengths of command blocks, the commands served and the masks of their bytes (01, "Command lengths and masks").
 -- Assumes nothing: these are definitions.
 use mathlib.Core.Bool.{Bool, true, cond, _&&_, _||_}
-use mathlib.Core.List.{List, [], _∷_}
+use mathlib.Core.List.{List, [], _∷_, _++_}
 use Prim.Native.Nat.{ℕ, zero, suc, _-_}
 use lib.Bits.{bitAnd}
 use lib.Dec.{eqb, ltb}
-use lib.ListN.{length, getD}
+use lib.ListN.{length, getD, take, replicate}
 use Rattle.codes.specs.declared.operation.Operation.{Operation}
 use Rattle.codes.specs.declared.operation.Operation.the-variants.{TestUnitReady, Rewind, RequestSense, ReadBlockLimits, Read, Write, WriteFilemarks, Space, ModeSelect, Erase, ModeSense, LoadUnload, Locate, ReadPosition, NotServed}
 
@@ -41,14 +41,13 @@ numberOf Locate = 0x2B
 numberOf ReadPosition = 0x34
 numberOf NotServed = 0x100
 
--- an operation code, its command, and the masks of the bytes from byte 1 on: byte:bits, others 00
+-- a command, and the masks of its bytes from byte 1 on: byte:bits, others 00
 pub record Row : Type 0 where
-  pub code : ℕ
   pub operation : Operation
   pub masks : List ℕ
 
 abbrev pub row : Operation → List ℕ → Row
-row o m = record { code = numberOf o; operation = o; masks = m }
+row o m = record { operation = o; masks = m }
 
 -- one line a command, as 01 writes them
 abbrev pub rows : List Row
@@ -83,36 +82,43 @@ rows =
     row ReadPosition (0x1F ∷ []) ∷
     []
 
--- an operation code that is not served
+-- "operation code not served"
 abbrev pub noRow : Row
 noRow = row NotServed []
 
--- where an operation code stands in the rows, counted from i; past their end where it does not
-abbrev pub placeIn : List Row → ℕ → ℕ → ℕ
-placeIn [] op i = i
-placeIn (r ∷ rs) op i = cond (eqb (r .code) op) i (placeIn rs op (suc i))
+-- the row of an operation code: the one whose command has it for its number
+abbrev pub find : List Row → ℕ → Row
+find [] op = noRow
+find (r ∷ rs) op = cond (eqb (numberOf (r .operation)) op) r (find rs op)
 
-abbrev pub rowOf : ℕ → ℕ
-rowOf op = placeIn rows op 0
+abbrev pub rowOf : ℕ → Row
+rowOf op = find rows op
 
-abbrev pub operationAt : ℕ → Operation
-operationAt r = getD rows r noRow .operation
-
--- the command of an operation code
+-- the command of an operation code, and its masks
 abbrev pub operationOf : ℕ → Operation
-operationOf op = operationAt (rowOf op)
+operationOf op = rowOf op .operation
 
--- the mask of byte k + 1 in row r
-abbrev pub maskAt : ℕ → ℕ → ℕ
-maskAt r k = getD (getD rows r noRow .masks) k 0
+abbrev pub masksOf : ℕ → List ℕ
+masksOf op = rowOf op .masks
 
 -- ---- "A bit outside its mask is a field error"
 
+-- the mask of byte k + 1, "others 00"
+abbrev pub maskAt : List ℕ → ℕ → ℕ
+maskAt m k = getD m k 0
+
+-- a row of the code's table has a mask for each of bytes 1 to 15, since the longest command block has 16 bytes
+abbrev pub maskCount : ℕ
+maskCount = 15
+
+abbrev pub spread : List ℕ → List ℕ
+spread m = take maskCount (m ++ replicate maskCount 0)
+
 -- every bit of the n bytes from byte 1 on lies within its mask
-unfoldable pub inMasks : ℕ → List ℕ → ℕ → Bool
-inMasks r cmd zero = true
-inMasks r cmd (suc k) = inMasks r cmd k && eqb (bitAnd (getD cmd (suc k) 0) (maskAt r k)) (getD cmd (suc k) 0)
+unfoldable pub inMasks : List ℕ → List ℕ → ℕ → Bool
+inMasks m cmd zero = true
+inMasks m cmd (suc k) = inMasks m cmd k && eqb (bitAnd (getD cmd (suc k) 0) (maskAt m k)) (getD cmd (suc k) 0)
 
 -- the same for a command block of its length; extra bytes are ignored
 unfoldable pub masksHold : List ℕ → Bool
-masksHold cmd = inMasks (rowOf (codeOf cmd)) cmd (lengthOf (codeOf cmd) - 1)
+masksHold cmd = inMasks (masksOf (codeOf cmd)) cmd (lengthOf (codeOf cmd) - 1)

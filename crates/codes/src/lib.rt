@@ -4,9 +4,7 @@ mod fields;
 mod lengths;
 mod masks;
 mod operation;
-mod rows;
 
-pub use block::SERVED;
 pub use block::is_too_short;
 pub use block::masks_hold;
 pub use fields::allocation;
@@ -41,4 +39,3 @@ pub use operation::WRITE;
 pub use operation::WRITE_FILEMARKS;
 pub use operation::number_of;
 pub use operation::operation_of;
-pub use operation::row_of;

@@ -1,129 +1,50 @@
-// The masks of each served command, nine bytes a row, from byte 1 of the command block on.
-pub const MASKS: [u8; 126] = [
-    0x00,
-    0x00,
-    0x00,
-    0x00,
-    0x00,
-    0x00,
-    0x00,
-    0x00,
-    0x00,
-    0x01,
-    0x00,
-    0x00,
-    0x00,
-    0x00,
-    0x00,
-    0x00,
-    0x00,
-    0x00,
-    0x00,
-    0x00,
-    0x00,
-    0xff,
-    0x00,
-    0x00,
-    0x00,
-    0x00,
-    0x00,
-    0x00,
-    0x00,
-    0x00,
-    0x00,
-    0x00,
-    0x00,
-    0x00,
-    0x00,
-    0x00,
-    0x03,
-    0xff,
-    0xff,
-    0xff,
-    0x00,
-    0x00,
-    0x00,
-    0x00,
-    0x00,
-    0x01,
-    0xff,
-    0xff,
-    0xff,
-    0x00,
-    0x00,
-    0x00,
-    0x00,
-    0x00,
-    0x00,
-    0xff,
-    0xff,
-    0xff,
-    0x00,
-    0x00,
-    0x00,
-    0x00,
-    0x00,
-    0x0f,
-    0xff,
-    0xff,
-    0xff,
-    0x00,
-    0x00,
-    0x00,
-    0x00,
-    0x00,
-    0x10,
-    0x00,
-    0x00,
-    0xff,
-    0x00,
-    0x00,
-    0x00,
-    0x00,
-    0x00,
-    0x03,
-    0x00,
-    0x00,
-    0x00,
-    0x00,
-    0x00,
-    0x00,
-    0x00,
-    0x00,
-    0x08,
-    0x3f,
-    0x00,
-    0xff,
-    0x00,
-    0x00,
-    0x00,
-    0x00,
-    0x00,
-    0x01,
-    0x00,
-    0x00,
-    0x01,
-    0x00,
-    0x00,
-    0x00,
-    0x00,
-    0x00,
-    0x03,
-    0x00,
-    0xff,
-    0xff,
-    0xff,
-    0xff,
-    0x00,
-    0xff,
-    0x00,
-    0x1f,
-    0x00,
-    0x00,
-    0x00,
-    0x00,
-    0x00,
-    0x00,
-    0x00,
-    0x00,
-];
+// The table of masks: a constant row for each served command, the masks of its bytes 1 to 15 as document 01 lists them.
+pub const WIDTH: usize = 15;
+
+// Every bit may be set.
+const FF: u8 = 0xff;
+
+// What is not served has no masks.
+pub const NONE: [u8; WIDTH] = [0; WIDTH];
+
+// 00 TEST UNIT READY none
+pub const TEST_UNIT_READY: [u8; WIDTH] = NONE;
+
+// 01 REWIND 1:01
+pub const REWIND: [u8; WIDTH] = [0x01, 0, 0, 0, 0, 0, 0, 0, 0, 0, 0, 0, 0, 0, 0];
+
+// 03 REQUEST SENSE 4:FF
+pub const REQUEST_SENSE: [u8; WIDTH] = [0, 0, 0, FF, 0, 0, 0, 0, 0, 0, 0, 0, 0, 0, 0];
+
+// 05 READ BLOCK LIMITS none
+pub const READ_BLOCK_LIMITS: [u8; WIDTH] = NONE;
+
+// 08 READ 1:03 2–4:FF
+pub const READ: [u8; WIDTH] = [0x03, FF, FF, FF, 0, 0, 0, 0, 0, 0, 0, 0, 0, 0, 0];
+
+// 0A WRITE 1:01 2–4:FF
+pub const WRITE: [u8; WIDTH] = [0x01, FF, FF, FF, 0, 0, 0, 0, 0, 0, 0, 0, 0, 0, 0];
+
+// 10 WRITE FILEMARKS 2–4:FF
+pub const WRITE_FILEMARKS: [u8; WIDTH] = [0, FF, FF, FF, 0, 0, 0, 0, 0, 0, 0, 0, 0, 0, 0];
+
+// 11 SPACE 1:0F 2–4:FF
+pub const SPACE: [u8; WIDTH] = [0x0f, FF, FF, FF, 0, 0, 0, 0, 0, 0, 0, 0, 0, 0, 0];
+
+// 15 MODE SELECT 1:10 4:FF
+pub const MODE_SELECT: [u8; WIDTH] = [0x10, 0, 0, FF, 0, 0, 0, 0, 0, 0, 0, 0, 0, 0, 0];
+
+// 19 ERASE 1:03
+pub const ERASE: [u8; WIDTH] = [0x03, 0, 0, 0, 0, 0, 0, 0, 0, 0, 0, 0, 0, 0, 0];
+
+// 1A MODE SENSE 1:08 2:3F 4:FF
+pub const MODE_SENSE: [u8; WIDTH] = [0x08, 0x3f, 0, FF, 0, 0, 0, 0, 0, 0, 0, 0, 0, 0, 0];
+
+// 1B LOAD UNLOAD 1:01 4:01
+pub const LOAD_UNLOAD: [u8; WIDTH] = [0x01, 0, 0, 0x01, 0, 0, 0, 0, 0, 0, 0, 0, 0, 0, 0];
+
+// 2B LOCATE 1:03 3–6:FF 8:FF
+pub const LOCATE: [u8; WIDTH] = [0x03, 0, FF, FF, FF, FF, 0, FF, 0, 0, 0, 0, 0, 0, 0];
+
+// 34 READ POSITION 1:1F
+pub const READ_POSITION: [u8; WIDTH] = [0x1f, 0, 0, 0, 0, 0, 0, 0, 0, 0, 0, 0, 0, 0, 0];

@@ -1,9 +1,9 @@
-// The commands served, and the row of each in the tables.
+// The commands served: the operation code and the masks of each.
 ghost use mathlib.Core.Path.{_≡_};
-ghost use Prim.Native.Nat.{_<_};
-ghost use Rattle.codes.specs.Codes.{lengthOf, numberOf, rowOf, operationAt, operationOf};
+ghost use Rattle.codes.specs.Codes.{lengthOf, numberOf, operationOf, masksOf, spread};
 use crate::lengths::LENGTHS;
-use crate::rows::ROWS;
+use crate::masks;
+use crate::masks::WIDTH;
 
 // The number of each command, its operation code; for what is not served, one that is no byte.
 pub const TEST_UNIT_READY: u16 = 0x00;
@@ -62,42 +62,50 @@ pub fn block_length(op: u8) -> u8
     LENGTHS[i]
 }
 
-// The row of an operation code in the table of masks; 14 where it is not served.
-pub fn row_of(op: u8) -> u8
-    ensures { λ r. ⌜ r ≡ rowOf op ⌝ }
-{
-    let i = op as usize;
-    ROWS[i]
-}
-
-// The command of a row.
-fn operation_at(row: u8) -> Operation
-    ensures { λ r. ⌜ r ≡ operationAt row ⌝ }
-{
-    match row {
-        0 => Operation::TestUnitReady,
-        1 => Operation::Rewind,
-        2 => Operation::RequestSense,
-        3 => Operation::ReadBlockLimits,
-        4 => Operation::Read,
-        5 => Operation::Write,
-        6 => Operation::WriteFilemarks,
-        7 => Operation::Space,
-        8 => Operation::ModeSelect,
-        9 => Operation::Erase,
-        10 => Operation::ModeSense,
-        11 => Operation::LoadUnload,
-        12 => Operation::Locate,
-        13 => Operation::ReadPosition,
-        _ => Operation::NotServed,
-    }
-}
-
 // The command of an operation code.
 pub fn operation_of(op: u8) -> Operation
     ensures { λ r. ⌜ r ≡ operationOf op ⌝ }
 {
-    operation_at(row_of(op))
+    match op {
+        0x00 => Operation::TestUnitReady,
+        0x01 => Operation::Rewind,
+        0x03 => Operation::RequestSense,
+        0x05 => Operation::ReadBlockLimits,
+        0x08 => Operation::Read,
+        0x0a => Operation::Write,
+        0x10 => Operation::WriteFilemarks,
+        0x11 => Operation::Space,
+        0x15 => Operation::ModeSelect,
+        0x19 => Operation::Erase,
+        0x1a => Operation::ModeSense,
+        0x1b => Operation::LoadUnload,
+        0x2b => Operation::Locate,
+        0x34 => Operation::ReadPosition,
+        _ => Operation::NotServed,
+    }
+}
+
+// The row of an operation code in the table of masks. A `match`, and no index, so that nothing builds the table on the stack.
+pub fn masks_of(op: u8) -> [u8; WIDTH]
+    ensures { λ r. ⌜ r ≡ spread (masksOf op) ⌝ }
+{
+    match op {
+        0x00 => masks::TEST_UNIT_READY,
+        0x01 => masks::REWIND,
+        0x03 => masks::REQUEST_SENSE,
+        0x05 => masks::READ_BLOCK_LIMITS,
+        0x08 => masks::READ,
+        0x0a => masks::WRITE,
+        0x10 => masks::WRITE_FILEMARKS,
+        0x11 => masks::SPACE,
+        0x15 => masks::MODE_SELECT,
+        0x19 => masks::ERASE,
+        0x1a => masks::MODE_SENSE,
+        0x1b => masks::LOAD_UNLOAD,
+        0x2b => masks::LOCATE,
+        0x34 => masks::READ_POSITION,
+        _ => masks::NONE,
+    }
 }
 
 // The number of a command.

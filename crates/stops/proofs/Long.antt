@@ -1,47 +1,25 @@
 -- The operation code of a served command is its number, so a command block that is not too short has the length of its command.
 -- Assumes nothing.
-use mathlib.Core.Path.{_≡_, refl, sym, ap, _∙_, subst}
-use mathlib.Core.Bool.{Bool, true, false, cond}
-use mathlib.Core.List.{List, [], _∷_}
-use Prim.Native.Nat.{ℕ, suc, _+_, _≤_}
-use native.Mathlib.Nat.{add-zero, zero-add, add-suc, suc-add}
+use mathlib.Core.Path.{_≡_, sym, ap, _∙_, subst}
+use mathlib.Core.Bool.{true, false}
+use mathlib.Core.List.{List}
+use Prim.Native.Nat.{ℕ, _≤_}
 use native.Mathlib.Omega.{arith}
-use borrow.Author.Tests.{eqb-true}
-use lib.Dec.{eqb}
-use lib.ListN.{length, getD}
+use lib.ListN.{length}
 use Rattle.codes.specs.declared.operation.Operation.{Operation}
 use Rattle.codes.specs.declared.operation.Operation.the-variants.{TestUnitReady, Rewind, RequestSense, ReadBlockLimits, Read, Write, WriteFilemarks, Space, ModeSelect, Erase, ModeSense, LoadUnload, Locate, ReadPosition, NotServed}
-use Rattle.codes.specs.Codes.{lengthOf, codeOf, tooShort, numberOf, Row, rows, noRow, placeIn, operationOf}
-use Rattle.codes.proofs.Rules.{long-enough}
+use Rattle.codes.specs.Codes.{lengthOf, codeOf, tooShort, numberOf, Row, rows, rowOf, operationOf}
+use Rattle.codes.proofs.Rules.{long-enough, Found, here, nowhere, found}
 use Rattle.commands.specs.Kinds.{isServed}
 
 -- ---- a row is found by the number of its operation
 
--- the code of each row is the number of its operation
-abbrev Fair : List Row → Type 0
-Fair [] = Unit {0}
-Fair (r ∷ rs) = (r .code ≡ numberOf (r .operation)) × Fair rs
-
--- f holds the rows from i on: at the place of a code stands a row with that code, or past the end the one that is not served
-placed : (rs : List Row) (op i : ℕ) → Fair rs → (f : ℕ → Row) → ((k : ℕ) → f (i + k) ≡ getD rs k noRow) → isServed (f (placeIn rs op i) .operation) ≡ true → numberOf (f (placeIn rs op i) .operation) ≡ op
-placed [] op i fair f at s =
-    let e : f i ≡ noRow = ap f (sym (add-zero i)) ∙ at 0 in
-    let q : false ≡ true = sym (ap (λ (r : Row). isServed (r .operation)) e) ∙ s in
-    absurd (let z : _≡_ {A = ℕ} 0 1 = cc in omega arith)
-placed (r ∷ rs) op i fair f at s =
-    by (eqb (r .code) op) refl s (placed rs op (suc i) (fair .1) f (λ k. ap f (suc-add i k ∙ sym (add-suc i k)) ∙ at (suc k)))
-  where
-    by : (t : Bool) → eqb (r .code) op ≡ t → isServed (f (cond t i (placeIn rs op (suc i))) .operation) ≡ true → (isServed (f (placeIn rs op (suc i)) .operation) ≡ true → numberOf (f (placeIn rs op (suc i)) .operation) ≡ op) → numberOf (f (cond t i (placeIn rs op (suc i))) .operation) ≡ op
-    by true q w ih =
-        let e : f i ≡ r = ap f (sym (add-zero i)) ∙ at 0 in
-        ap (λ (x : Row). numberOf (x .operation)) e ∙ sym (fair .0) ∙ eqb-true (r .code) op q
-    by false q w ih = ih w
-
 pub code-number : (op : ℕ) → isServed (operationOf op) ≡ true → numberOf (operationOf op) ≡ op
-code-number op s = placed rows op 0 fair (λ k. getD rows k noRow) (λ k. ap (λ (n : ℕ). getD rows n noRow) (zero-add k)) s
+code-number op s = by (rowOf op) (found rows op) s
   where
-    fair : Fair rows
-    fair = (refl, (refl, (refl, (refl, (refl, (refl, (refl, (refl, (refl, (refl, (refl, (refl, (refl, (refl, tt))))))))))))))
+    by : (r : Row) → Found op r → isServed (r .operation) ≡ true → numberOf (r .operation) ≡ op
+    by r (here e) s = e
+    by r (nowhere e) s = absurd (let z : false ≡ true = sym (ap (λ (x : Row). isServed (x .operation)) e) ∙ s in let y : _≡_ {A = ℕ} 0 1 = cc in omega arith)
 
 -- ---- so its length is known
 

@@ -3,17 +3,17 @@
 use mathlib.Core.Path.{_≡_, refl, sym, ap, _∙_}
 use mathlib.Core.Bool.{Bool, true, false, cond, not, _&&_, _||_}
 use mathlib.Core.List.{List, [], _∷_}
-use Prim.Native.Nat.{ℕ, _≤_, _<_}
+use Prim.Native.Nat.{ℕ, _≤_}
 use native.Mathlib.Omega.{arith}
-use borrow.Author.Tests.{eq-eqb, ne-eqb, eqb-true, ltb-true, ltb-false, not-true, not-false}
-use lib.Dec.{eqb, ltb}
+use borrow.Author.Tests.{eq-eqb, ne-eqb, eqb-true, not-true, not-false}
+use lib.Dec.{eqb}
 use lib.ListN.{length}
 use Rattle.record.specs.declared.drive.Drive.{Drive}
 use Rattle.record.specs.Record.{noAttention}
 use Rattle.codes.specs.declared.operation.Operation.{Operation}
 use Rattle.codes.specs.declared.operation.Operation.the-variants.{Locate}
-use Rattle.codes.specs.Codes.{codeOf, tooShort, numberOf, rowOf, operationOf}
-use Rattle.codes.proofs.Rules.{no-command, operation-number}
+use Rattle.codes.specs.Codes.{codeOf, tooShort, numberOf, operationOf}
+use Rattle.codes.proofs.Rules.{operation-number}
 use Rattle.commands.specs.Act.{Seen}
 use Rattle.commands.specs.Kinds.{among, passesAttention, isServed, writes}
 use Rattle.commands.proofs.Among.{last}
@@ -78,23 +78,13 @@ module _ (o : Operation) (d : Drive) where
 
 -- ---- what a served command is known to be
 
--- its code has a row
-pub served-row : (op : ℕ) → isServed (operationOf op) ≡ true → rowOf op < 14
-served-row op s = by (ltb (rowOf op) 14) refl
-  where
-    by : (t : Bool) → ltb (rowOf op) 14 ≡ t → rowOf op < 14
-    by true q = ltb-true (rowOf op) 14 q
-    by false q =
-        let w : false ≡ true = ap isServed (no-command (rowOf op) (ltb-false (rowOf op) 14 q)) ∙ s in
-        absurd (let z : _≡_ {A = ℕ} 0 1 = cc in omega arith)
-
 module _ (o : Operation) (cmd : List ℕ) (h : tooShort cmd ≡ false) (e : o ≡ operationOf (codeOf cmd)) (b : Bool) where
   -- all that the tests from the fields on ask for
-  pub served-known : b ≡ isServed o → not b ≡ false → (tooShort cmd ≡ false) × (o ≡ operationOf (codeOf cmd)) × (rowOf (codeOf cmd) < 14) × (5 ≤ length cmd)
+  pub served-known : b ≡ isServed o → not b ≡ false → (tooShort cmd ≡ false) × (o ≡ operationOf (codeOf cmd)) × (5 ≤ length cmd)
   served-known q n =
       let s : isServed (operationOf (codeOf cmd)) ≡ true = sym (ap isServed e) ∙ sym q ∙ not-false b n in
       let l : 6 ≤ length cmd = served-long cmd h s in
-      (h, e, served-row (codeOf cmd) s, omega arith)
+      (h, e, omega arith)
 
   -- a LOCATE has its ten bytes
   pub locate-known : b ≡ among (Locate ∷ []) o → not b ≡ false → 10 ≤ length cmd

@@ -2,12 +2,12 @@
 ghost use mathlib.Core.Path.{_≡_};
 ghost use mathlib.Core.Bool.{false, not, _&&_, _||_};
 ghost use mathlib.Core.List.{[], _∷_};
-ghost use Prim.Native.Nat.{_≤_, _<_};
+ghost use Prim.Native.Nat.{_≤_};
 ghost use lib.Dec.{eqb, leb};
 ghost use lib.ListN.{length};
 ghost use Rattle.record.specs.Record.{noAttention};
 ghost use Rattle.codes.specs.declared.operation.Operation.the-variants.{ModeSelect, Locate};
-ghost use Rattle.codes.specs.Codes.{codeOf, tooShort, rowOf, operationOf, masksHold};
+ghost use Rattle.codes.specs.Codes.{codeOf, tooShort, operationOf, masksHold};
 ghost use Rattle.codes.specs.Fields.{allocationOf, changesPartition, partitionOf};
 ghost use Rattle.mode.specs.Mode.{listLengthKnown};
 ghost use Rattle.commands.specs.Kinds.{among, passesAttention, needsCartridge, writes};
@@ -36,7 +36,7 @@ pub fn attention_waits(o: Operation, d: Drive) -> bool
 
 // Whether a field of a served command is wrong, by the masks or beyond them.
 pub fn is_any_field_wrong(o: Operation, d: Drive, cmd: &[u8]) -> bool
-    requires { ⌜ (tooShort (now cmd) ≡ false) × (rowOf (codeOf (now cmd)) < 14) × (5 ≤ length (now cmd)) ⌝ }
+    requires { ⌜ (tooShort (now cmd) ≡ false) × (5 ≤ length (now cmd)) ⌝ }
     ensures { λ r. ⌜ r ≡ not (masksHold (now (cmd .entry))) || fieldError o d (now (cmd .entry)) ⌝ }
 {
     if !codes::masks_hold(cmd) {

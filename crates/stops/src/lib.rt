@@ -1,9 +1,9 @@
 // The tests of a command in document 01's order, after 1 and 4: what ends it before it acts.
 ghost use mathlib.Core.Path.{_≡_};
 ghost use mathlib.Core.Bool.{true, false};
-ghost use Prim.Native.Nat.{_≤_, _<_};
+ghost use Prim.Native.Nat.{_≤_};
 ghost use lib.ListN.{length, drop};
-ghost use Rattle.codes.specs.Codes.{codeOf, tooShort, rowOf, operationOf};
+ghost use Rattle.codes.specs.Codes.{codeOf, tooShort, operationOf};
 ghost use Rattle.commands.specs.Stop.{first};
 ghost use Rattle.commands.specs.Tests.{tests};
 ghost use Rattle.commands.specs.Kinds.{writes};
@@ -43,7 +43,7 @@ fn stop_of_served(
     sent: &[u8],
     received: &[u8],
 ) -> Stop
-    requires { ⌜ (tooShort (now cmd) ≡ false) × (o ≡ operationOf (codeOf (now cmd))) × (rowOf (codeOf (now cmd)) < 14) × (5 ≤ length (now cmd)) ⌝ }
+    requires { ⌜ (tooShort (now cmd) ≡ false) × (o ≡ operationOf (codeOf (now cmd))) × (5 ≤ length (now cmd)) ⌝ }
     ensures { λ r. ⌜ ((v : Seen) → (writes o ≡ true → v .guarded ≡ guarded) → stopOf r ≡ first (drop 2 (tests o d (now (cmd .entry)) v (now (sent .entry)) (length (now (received .entry)))))) ⌝ }
 {
     let field = is_any_field_wrong(o, d, cmd);

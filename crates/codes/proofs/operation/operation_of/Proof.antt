@@ -1,19 +1,72 @@
--- The command of the code's row.
+-- Each arm computes; what no arm names has no row (`last-arm`).
 -- Assumes nothing.
-use mathlib.Core.Path.{ap, _∙_}
-use borrow.Author.Needs.{needs}
-use Rattle.codes.specs.Codes.{operationAt}
+use mathlib.Core.Path.{refl}
+use Rattle.codes.specs.Codes.{Row}
+use Rattle.codes.proofs.Rules.{arm, last-arm}
 use Rattle.codes.proofs.operation.operation_of.Statement.{statement}
 use Rattle.codes.proofs.operation.operation_of.Tie as tie
 
-row-of-requires : tie.Need-row-of-requires
-row-of-requires c κs = search needs
-
-operation-at-requires : tie.Need-operation-at-requires
-operation-at-requires c κs = search needs
-
 returns : tie.Need-returns
-returns c = c .operation-at .ensures ∙ ap operationAt (c .before .row-of .ensures)
+returns c = arm (λ (r : Row). r .operation) (c .match .keys1) refl
+
+returns-2 : tie.Need-returns-2
+returns-2 c = arm (λ (r : Row). r .operation) (c .match .keys2) refl
+
+returns-3 : tie.Need-returns-3
+returns-3 c = arm (λ (r : Row). r .operation) (c .match .keys3) refl
+
+returns-4 : tie.Need-returns-4
+returns-4 c = arm (λ (r : Row). r .operation) (c .match .keys4) refl
+
+returns-5 : tie.Need-returns-5
+returns-5 c = arm (λ (r : Row). r .operation) (c .match .keys5) refl
+
+returns-6 : tie.Need-returns-6
+returns-6 c = arm (λ (r : Row). r .operation) (c .match .keys6) refl
+
+returns-7 : tie.Need-returns-7
+returns-7 c = arm (λ (r : Row). r .operation) (c .match .keys7) refl
+
+returns-8 : tie.Need-returns-8
+returns-8 c = arm (λ (r : Row). r .operation) (c .match .keys8) refl
+
+returns-9 : tie.Need-returns-9
+returns-9 c = arm (λ (r : Row). r .operation) (c .match .keys9) refl
+
+returns-10 : tie.Need-returns-10
+returns-10 c = arm (λ (r : Row). r .operation) (c .match .keys10) refl
+
+returns-11 : tie.Need-returns-11
+returns-11 c = arm (λ (r : Row). r .operation) (c .match .keys11) refl
+
+returns-12 : tie.Need-returns-12
+returns-12 c = arm (λ (r : Row). r .operation) (c .match .keys12) refl
+
+returns-13 : tie.Need-returns-13
+returns-13 c = arm (λ (r : Row). r .operation) (c .match .keys13) refl
+
+returns-14 : tie.Need-returns-14
+returns-14 c = arm (λ (r : Row). r .operation) (c .match .keys14) refl
+
+returns-15 : tie.Need-returns-15
+returns-15 c = last-arm (λ (r : Row). r .operation) (c .match .rest)
 
 pub operation-of-spec : {M : Type 1} → statement M
-operation-of-spec = tie.close (tie.spec row-of-requires operation-at-requires returns)
+operation-of-spec =
+    tie.close
+    (tie.spec
+    returns
+    returns-2
+    returns-3
+    returns-4
+    returns-5
+    returns-6
+    returns-7
+    returns-8
+    returns-9
+    returns-10
+    returns-11
+    returns-12
+    returns-13
+    returns-14
+    returns-15)
