@@ -28,22 +28,22 @@ use Rattle.codes.specs.Fields.{changesPartition, partitionOf}
 use Rattle.cartridge.specs.Mount.{absent, partitionsOf, rightLengths, bothSound, mountFault, mountCall}
 use Rattle.transfer.specs.Transfer.{putFrom}
 use Rattle.commands.specs.Stop.{refuse, first}
-use Rattle.commands.specs.Kinds.{erases, locates, needsCartridge}
-use Rattle.commands.specs.Act.{Seen, at, targetOf, goesDown, act, eventsOf}
+use Rattle.commands.specs.Kinds.{erases, locates, needsCartridge, writes}
+use Rattle.commands.specs.Act.{Seen, at, targetOf, locating, goesDown, act, eventsOf}
 use Rattle.commands.specs.Tests.{tests}
 use Rattle.commands.specs.Step.{acted, keptOf}
-use Rattle.commands.specs.Call.{lent, Result, partition, looksAt, seen, seenOf, inserted, written, commandTests, commandCall, laidOut, applied}
+use Rattle.commands.specs.Call.{Lent, lent, Result, partition, looksAt, seen, seenOf, inserted, written, commandTests, commandCall, laidOut, applied}
 use Rattle.commands.proofs.Exact.{refused-4}
 use Rattle.image.proofs.Judged.{never-both}
-use Rattle.commands.proofs.Passed.{Passed, passed}
-use Rattle.commands.proofs.Classes.{unchanged}
+use Rattle.commands.proofs.Passed.{passed}
+use Rattle.commands.proofs.Goes.{has-cartridge}
+use Rattle.commands.proofs.Laid.{Turned}
 use Rattle.history.specs.History.{Slot, slot0, slot1, Cartridge, cartridge, protection, slicesLeft, after, ends}
 use Rattle.history.specs.Demand3.{NoFault}
 use Rattle.history.specs.Always.{Use, sends, mounts, protects, callsOf, recordUsed, AlwaysSo}
-use Rattle.history.proofs.Faultless.{Cart, no-cart, one-part, two-parts, Well, well-test, fault-free, no-fault, empty-whole}
-use Rattle.history.proofs.Turned.{offered-kept, put-place, cut-turned}
+use Rattle.commands.proofs.Faultless.{Cart, no-cart, one-part, two-parts, Well, well-test, fault-free, no-fault, empty-whole, inside, seen-there, kept-whole}
 use Rattle.history.proofs.Ended.{Ended, by-number, by-sense, by-act, ended, calm-well}
-use Rattle.history.proofs.Acted.{inside, seen-there, acts, unaltered, sees, shaped, turned, alters, writing-drive, marking-drive, kept-whole}
+use Rattle.history.proofs.Acted.{writing-drive, marking-drive, idle, stepped, sees, place, turned, shaped, put-place}
 use Rattle.history.proofs.Told.{protect-turned}
 use Rattle.history.proofs.Moved.{Moves, current-in, moved-cart, moved-well, loaded-well, selected-well, reading-moves, spacing-moves, located-well}
 
@@ -55,93 +55,89 @@ as-left e r c h k = subst (λ (x : Cartridge). Well e (x .part0) (x .part1)) (sy
 from-moves : (d : Drive) (p0 p1 : List ℕ) (n : ℕ) (e : Drive) → Well d p0 p1 → (d .loaded ≡ 0 → ⊥) → Moves d n e → n ≡ count (partition (d .current) p0 p1) → Well e p0 p1
 from-moves d p0 p1 n e w l m h = rw (m .is) (moved-well d p0 p1 (m .to) w l (omega (arith, m .within)))
 
-module _ (rec cmd p0 p1 sent received : List ℕ) (w : Well (decodeOf rec) p0 p1) where
+module _ (rec : List ℕ) (x : Lent) (w : Well (decodeOf rec) (x .part0) (x .part1)) where
   abbrev Passes : Operation → Type 0
-  Passes o = first (tests o (decodeOf rec) cmd (seen o (decodeOf rec) (lent cmd p0 p1 sent received)) sent (length received)) ≡ none
+  Passes o = first (tests o (decodeOf rec) (x .cmd) (seen o (decodeOf rec) x) (x .sent) (length (x .received))) ≡ none
+
+  abbrev Drives : Operation → Drive
+  Drives o = (act o (decodeOf rec) (x .cmd) (x .sent) (seen o (decodeOf rec) x)) .drive
+
+  abbrev Leaves : Operation → Result
+  Leaves o = written rec (applied (acted o (decodeOf rec) (x .cmd) (x .sent) (seen o (decodeOf rec) x)) (looksAt o (decodeOf rec) (x .cmd)) x)
 
   abbrev After : Operation → Type 0
-  After o = Well ((act o (decodeOf rec) cmd sent (seen o (decodeOf rec) (lent cmd p0 p1 sent received))) .drive) ((written rec (applied (acted o (decodeOf rec) cmd sent (seen o (decodeOf rec) (lent cmd p0 p1 sent received))) (looksAt o (decodeOf rec) cmd) (lent cmd p0 p1 sent received))) .lent .part0) ((written rec (applied (acted o (decodeOf rec) cmd sent (seen o (decodeOf rec) (lent cmd p0 p1 sent received))) (looksAt o (decodeOf rec) cmd) (lent cmd p0 p1 sent received))) .lent .part1)
-
-  put-after : (o : Operation) (eo : operationOf (codeOf cmd) ≡ o) (l : decodeOf rec .loaded ≡ 0 → ⊥) (nl : (d : Drive) → looksAt o d cmd ≡ d .current)
-      (q : Passed o (decodeOf rec) cmd (seen o (decodeOf rec) (lent cmd p0 p1 sent received)) sent (length received)) (ne : erases o ≡ false)
-      (ev : (v : Seen) → eventsOf o (decodeOf rec) cmd sent v ≡ putFrom (decodeOf rec .position) (goesDown o (decodeOf rec) cmd sent v))
-      (dr : (v : Seen) → (act o (decodeOf rec) cmd sent v) .drive ≡ at (decodeOf rec) (decodeOf rec .position + length (goesDown o (decodeOf rec) cmd sent v))) → After o
-  put-after o eo l nl q ne ev dr =
-      let i = inside (decodeOf rec) p0 p1 (w .cart) l in
-      let p : List ℕ = partition (decodeOf rec .current) p0 p1 in
-      let os : List Object = goesDown o (decodeOf rec) cmd sent (seenOf p) in
-      let t = turned rec cmd p0 p1 sent received o eo i nl (w .small) q ne ev dr in
-      let a = put-place (decodeOf rec) cmd sent p (i .right) (i .place) o (offered-kept o (decodeOf rec) cmd sent (w .small) (q .fields) (q .sends)) in
-      let c = moved-cart (decodeOf rec) p0 p1 (occurs (putFrom (decodeOf rec .position) os)) (decodeOf rec .position + length os) (w .cart) l (t .sound) a in
-      let e : (act o (decodeOf rec) cmd sent (seen o (decodeOf rec) (lent cmd p0 p1 sent received))) .drive ≡ at (decodeOf rec) (decodeOf rec .position + length os)
-      = ap (λ (v : Seen). (act o (decodeOf rec) cmd sent v) .drive) (sees rec cmd p0 p1 sent received o eo i nl) ∙ dr (seenOf p) in
-      as-left _ (acts rec cmd p0 p1 sent received o eo) _ (shaped rec cmd p0 p1 sent received o eo i nl (occurs (putFrom (decodeOf rec .position) os)) (alters rec cmd p0 p1 sent received o eo i nl (w .small) q ne ev dr))
-      (rw e (record { attention = w .attention; small = w .small; cart = c }))
-
-  -- one that alters nothing on a partition
-  idle-after : (o : Operation) (eo : operationOf (codeOf cmd) ≡ o) → ((v : Seen) (p : List ℕ) → laidOut (acted o (decodeOf rec) cmd sent v) p ≡ p) → Well ((act o (decodeOf rec) cmd sent (seen o (decodeOf rec) (lent cmd p0 p1 sent received))) .drive) p0 p1 → After o
-  idle-after o eo c k = as-left _ (acts rec cmd p0 p1 sent received o eo) _ (unaltered rec cmd p0 p1 sent received o eo c) k
-
-  module _ (o : Operation) (eo : operationOf (codeOf cmd) ≡ o) (nl : (d : Drive) → looksAt o d cmd ≡ d .current) (l : decodeOf rec .loaded ≡ 0 → ⊥) where
-    moves-after : ((v : Seen) → decodeOf rec .position ≤ length (v .objects) → Moves (decodeOf rec) (length (v .objects)) ((act o (decodeOf rec) cmd sent v) .drive)) → Well ((act o (decodeOf rec) cmd sent (seen o (decodeOf rec) (lent cmd p0 p1 sent received))) .drive) p0 p1
-    unfolding seenOf
-    moves-after m =
-        let i = inside (decodeOf rec) p0 p1 (w .cart) l in
-        let p : List ℕ = partition (decodeOf rec .current) p0 p1 in
-        rw (sees rec cmd p0 p1 sent received o eo i nl) (from-moves (decodeOf rec) p0 p1 (length (objects p)) _ w l (m (seenOf p) (omega (arith, i .place, length-objects p))) (length-objects p))
-
-  target-in : (d : Drive) → locates Locate && changesPartition cmd && leb (d .partitions) (partitionOf cmd) ≡ false → d .current < d .partitions → targetOf d cmd < d .partitions
-  unfolding targetOf
-  target-in d e h = go (changesPartition cmd) e
-    where
-      go : (t : Bool) → t && leb (d .partitions) (partitionOf cmd) ≡ false → cond t (partitionOf cmd) (d .current) < d .partitions
-      go true q = leb-false (d .partitions) (partitionOf cmd) q
-      go false q = h
-
-  locate-after : operationOf (codeOf cmd) ≡ Locate → Passes Locate → Well ((act Locate (decodeOf rec) cmd sent (seen Locate (decodeOf rec) (lent cmd p0 p1 sent received))) .drive) p0 p1
-  unfolding act seenOf looksAt
-  locate-after e q =
-      let k = passed Locate (decodeOf rec) cmd (seen Locate (decodeOf rec) (lent cmd p0 p1 sent received)) sent (length received) q in
-      let l = eqb-false (decodeOf rec .loaded) 0 (k .ready) in
-      let i = inside (decodeOf rec) p0 p1 (w .cart) l in
-      let p : List ℕ = partition (targetOf (decodeOf rec) cmd) p0 p1 in
-      rw (seen-there Locate (decodeOf rec) (lent cmd p0 p1 sent received) (target-in (decodeOf rec) (k .there) (current-in (decodeOf rec) p0 p1 (w .cart) l))) (located-well (decodeOf rec) p0 p1 cmd (seenOf p) w l (target-in (decodeOf rec) (k .there) (current-in (decodeOf rec) p0 p1 (w .cart) l)) (length-objects p))
-
-  erase-after : operationOf (codeOf cmd) ≡ Erase → Passes Erase → After Erase
-  unfolding act looksAt happens happen
-  erase-after e q =
-      let k = passed Erase (decodeOf rec) cmd (seen Erase (decodeOf rec) (lent cmd p0 p1 sent received)) sent (length received) q in
-      let l = eqb-false (decodeOf rec .loaded) 0 (k .ready) in
-      let i = inside (decodeOf rec) p0 p1 (w .cart) l in
-      let p : List ℕ = partition (decodeOf rec .current) p0 p1 in
-      let v : Seen = seen Erase (decodeOf rec) (lent cmd p0 p1 sent received) in
-      let t = cut-turned (decodeOf rec) cmd sent p (i .right) (i .place) v in
-      let n : length (objects (laidOut (acted Erase (decodeOf rec) cmd sent v) p)) ≡ length (take (decodeOf rec .position) (objects p)) = ap length (t .makes) in
-      let c = moved-cart (decodeOf rec) p0 p1 (laidOut (acted Erase (decodeOf rec) cmd sent v)) (decodeOf rec .position) (w .cart) l (t .sound)
-      (omega (arith, n, length-take (decodeOf rec .position) (objects p), length-objects p, length-objects (laidOut (acted Erase (decodeOf rec) cmd sent v) p), i .place)) in
-      as-left _ (acts rec cmd p0 p1 sent received Erase e) _ (shaped rec cmd p0 p1 sent received Erase e i (λ d. refl) (laidOut (acted Erase (decodeOf rec) cmd sent v)) (λ p. refl))
-      (record { attention = w .attention; small = w .small; cart = c })
+  After o = Well (Drives o) (Leaves o .lent .part0) (Leaves o .lent .part1)
 
   is-loaded : (o : Operation) → needsCartridge o ≡ true → Passes o → decodeOf rec .loaded ≡ 0 → ⊥
-  is-loaded o n q = eqb-false (decodeOf rec .loaded) 0 (rw n at (passed o (decodeOf rec) cmd (seen o (decodeOf rec) (lent cmd p0 p1 sent received)) sent (length received) q .ready))
+  is-loaded o n q = has-cartridge (decodeOf rec) (x .cmd) (x .sent) (length (x .received)) (seen o (decodeOf rec) x) o n q
 
-  acts-after : (o : Operation) → operationOf (codeOf cmd) ≡ o → Passes o → After o
-  unfolding act eventsOf looksAt
-  acts-after Write e q = put-after Write e (is-loaded Write refl q) (λ d. refl) (passed Write (decodeOf rec) cmd (seen Write (decodeOf rec) (lent cmd p0 p1 sent received)) sent (length received) q) refl (λ v. refl) (λ v. writing-drive (decodeOf rec) cmd sent v)
-  acts-after WriteFilemarks e q = put-after WriteFilemarks e (is-loaded WriteFilemarks refl q) (λ d. refl) (passed WriteFilemarks (decodeOf rec) cmd (seen WriteFilemarks (decodeOf rec) (lent cmd p0 p1 sent received)) sent (length received) q) refl (λ v. refl) (λ v. marking-drive (decodeOf rec) cmd sent v)
-  acts-after Erase e q = erase-after e q
-  acts-after TestUnitReady e q = idle-after TestUnitReady e (unchanged TestUnitReady refl (decodeOf rec) cmd sent) w
-  acts-after Rewind e q = idle-after Rewind e (unchanged Rewind refl (decodeOf rec) cmd sent) (moved-well (decodeOf rec) p0 p1 0 w (is-loaded Rewind refl q) zero-le)
-  acts-after RequestSense e q = idle-after RequestSense e (unchanged RequestSense refl (decodeOf rec) cmd sent) (calm-well (decodeOf rec) p0 p1 w)
-  acts-after ReadBlockLimits e q = idle-after ReadBlockLimits e (unchanged ReadBlockLimits refl (decodeOf rec) cmd sent) w
-  acts-after Read e q = idle-after Read e (unchanged Read refl (decodeOf rec) cmd sent) (moves-after Read e (λ d. refl) (is-loaded Read refl q) (λ v h. reading-moves (decodeOf rec) cmd v h))
-  acts-after Space e q = idle-after Space e (unchanged Space refl (decodeOf rec) cmd sent) (moves-after Space e (λ d. refl) (is-loaded Space refl q) (λ v h. spacing-moves (decodeOf rec) cmd v h))
-  acts-after ModeSelect e q = idle-after ModeSelect e (unchanged ModeSelect refl (decodeOf rec) cmd sent) (selected-well (decodeOf rec) p0 p1 cmd sent w)
-  acts-after ModeSense e q = idle-after ModeSense e (unchanged ModeSense refl (decodeOf rec) cmd sent) w
-  acts-after LoadUnload e q = idle-after LoadUnload e (unchanged LoadUnload refl (decodeOf rec) cmd sent) (loaded-well (decodeOf rec) p0 p1 cmd w (is-loaded LoadUnload refl q))
-  acts-after Locate e q = idle-after Locate e (unchanged Locate refl (decodeOf rec) cmd sent) (locate-after e q)
-  acts-after ReadPosition e q = idle-after ReadPosition e (unchanged ReadPosition refl (decodeOf rec) cmd sent) w
-  acts-after NotServed e q = idle-after NotServed e (unchanged NotServed refl (decodeOf rec) cmd sent) w
+  -- one that writes the current partition, and leaves the position n there
+  written-after : (o : Operation) (q : Passes o) (l : looksAt o (decodeOf rec) (x .cmd) ≡ decodeOf rec .current) (z : decodeOf rec .loaded ≡ 0 → ⊥) (n : ℕ) → Drives o ≡ at (decodeOf rec) n
+      → n ≤ count (laidOut (stepped rec x w o q) (partition (decodeOf rec .current) (x .part0) (x .part1))) → After o
+  written-after o q l z n e h =
+      let c = moved-cart (decodeOf rec) (x .part0) (x .part1) (laidOut (stepped rec x w o q)) n (w .cart) z (turned rec x w o q l z .sound) h in
+      as-left _ (Leaves o) _ (shaped rec x w o q l z) (rw e (record { attention = w .attention; small = w .small; cart = c }))
+
+  put-after : (o : Operation) (q : Passes o) → erases o ≡ false → (l : looksAt o (decodeOf rec) (x .cmd) ≡ decodeOf rec .current) (z : decodeOf rec .loaded ≡ 0 → ⊥)
+      → Drives o ≡ at (decodeOf rec) (decodeOf rec .position + length (goesDown o (decodeOf rec) (x .cmd) (x .sent) (seen o (decodeOf rec) x))) → After o
+  put-after o q ne l z dr = written-after o q l z _ dr (put-place rec x w o q ne l z dr)
+
+  erase-after : Passes Erase → After Erase
+  unfolding act looksAt
+  erase-after q = written-after Erase q refl (is-loaded Erase refl q) (decodeOf rec .position) refl (cut-place (turned rec x w Erase q refl (is-loaded Erase refl q)))
+    where
+      p : List ℕ
+      p = partition (decodeOf rec .current) (x .part0) (x .part1)
+
+      cut-place : Turned (stepped rec x w Erase q .events) p (laidOut (stepped rec x w Erase q) p) → decodeOf rec .position ≤ count (laidOut (stepped rec x w Erase q) p)
+      cut-place t =
+          let n : length (objects (laidOut (stepped rec x w Erase q) p)) ≡ length (take (decodeOf rec .position) (objects p)) = ap length (t .makes) ∙ (unfold acted eventsOf happens happen in refl) in
+          omega (arith, n, length-take (decodeOf rec .position) (objects p), length-objects p, length-objects (laidOut (stepped rec x w Erase q) p), inside (decodeOf rec) (x .part0) (x .part1) (w .cart) (is-loaded Erase refl q) .place)
+
+  -- one that writes nothing
+  idle-after : (o : Operation) → Passes o → writes o ≡ false → Well (Drives o) (x .part0) (x .part1) → After o
+  idle-after o q h k = as-left _ (Leaves o) _ (idle rec x o h) k
+
+  module _ (o : Operation) (q : Passes o) (l : looksAt o (decodeOf rec) (x .cmd) ≡ decodeOf rec .current) (z : decodeOf rec .loaded ≡ 0 → ⊥) where
+    moves-after : ((v : Seen) → decodeOf rec .position ≤ length (v .objects) → Moves (decodeOf rec) (length (v .objects)) ((act o (decodeOf rec) (x .cmd) (x .sent) v) .drive)) → Well (Drives o) (x .part0) (x .part1)
+    moves-after m =
+        let e : length ((seen o (decodeOf rec) x) .objects) ≡ count (partition (decodeOf rec .current) (x .part0) (x .part1)) = rw (sees rec x w o q l z) (unfold seenOf in length-objects (partition (decodeOf rec .current) (x .part0) (x .part1))) in
+        from-moves (decodeOf rec) (x .part0) (x .part1) (length ((seen o (decodeOf rec) x) .objects)) _ w z (m (seen o (decodeOf rec) x) (place rec x w o q l z)) e
+
+  target-in : (d : Drive) → locates Locate && changesPartition (x .cmd) && leb (d .partitions) (partitionOf (x .cmd)) ≡ false → d .current < d .partitions → targetOf d (x .cmd) < d .partitions
+  unfolding targetOf
+  target-in d e h = go (changesPartition (x .cmd)) e
+    where
+      go : (t : Bool) → t && leb (d .partitions) (partitionOf (x .cmd)) ≡ false → cond t (partitionOf (x .cmd)) (d .current) < d .partitions
+      go true q = leb-false (d .partitions) (partitionOf (x .cmd)) q
+      go false q = h
+
+  locate-after : Passes Locate → Well (Drives Locate) (x .part0) (x .part1)
+  unfolding act locating seenOf looksAt
+  locate-after q =
+      let k = passed Locate (decodeOf rec) (x .cmd) (seen Locate (decodeOf rec) x) (x .sent) (length (x .received)) q in
+      let z = is-loaded Locate refl q in
+      let t = target-in (decodeOf rec) (k .there) (current-in (decodeOf rec) (x .part0) (x .part1) (w .cart) z) in
+      let p : List ℕ = partition (targetOf (decodeOf rec) (x .cmd)) (x .part0) (x .part1) in
+      rw (seen-there Locate (decodeOf rec) x t) (located-well (decodeOf rec) (x .part0) (x .part1) (x .cmd) (seenOf p) w z t (length-objects p))
+
+  acts-after : (o : Operation) → Passes o → After o
+  unfolding act looksAt
+  acts-after Write q = put-after Write q refl refl (is-loaded Write refl q) (writing-drive (decodeOf rec) (x .cmd) (x .sent) _)
+  acts-after WriteFilemarks q = put-after WriteFilemarks q refl refl (is-loaded WriteFilemarks refl q) (marking-drive (decodeOf rec) (x .cmd) (x .sent) _)
+  acts-after Erase q = erase-after q
+  acts-after TestUnitReady q = idle-after TestUnitReady q refl w
+  acts-after Rewind q = idle-after Rewind q refl (moved-well (decodeOf rec) (x .part0) (x .part1) 0 w (is-loaded Rewind refl q) zero-le)
+  acts-after RequestSense q = idle-after RequestSense q refl (calm-well (decodeOf rec) (x .part0) (x .part1) w)
+  acts-after ReadBlockLimits q = idle-after ReadBlockLimits q refl w
+  acts-after Read q = idle-after Read q refl (moves-after Read q refl (is-loaded Read refl q) (λ v h. reading-moves (decodeOf rec) (x .cmd) v h))
+  acts-after Space q = idle-after Space q refl (moves-after Space q refl (is-loaded Space refl q) (λ v h. spacing-moves (decodeOf rec) (x .cmd) v h))
+  acts-after ModeSelect q = idle-after ModeSelect q refl (selected-well (decodeOf rec) (x .part0) (x .part1) (x .cmd) (x .sent) w)
+  acts-after ModeSense q = idle-after ModeSense q refl w
+  acts-after LoadUnload q = idle-after LoadUnload q refl (loaded-well (decodeOf rec) (x .part0) (x .part1) (x .cmd) w (is-loaded LoadUnload refl q))
+  acts-after Locate q = idle-after Locate q refl (locate-after q)
+  acts-after ReadPosition q = idle-after ReadPosition q refl w
+  acts-after NotServed q = idle-after NotServed q refl w
 
 -- ---- every call of a command
 
@@ -160,7 +156,7 @@ command-faultless rec cmd p0 p1 sent received h = go (ended rec cmd p0 p1 sent r
         let x = act o (decodeOf rec) cmd sent (seen o (decodeOf rec) (lent cmd p0 p1 sent received)) in
         let r : Result = written rec (applied (acted o (decodeOf rec) cmd sent (seen o (decodeOf rec) (lent cmd p0 p1 sent received))) (looksAt o (decodeOf rec) cmd) (lent cmd p0 p1 sent received)) in
         let y : wellRecord (encodeOf (withSense (x .drive) (keptOf (x .tells)))) && inserted (decodeOf (encodeOf (withSense (x .drive) (keptOf (x .tells))))) (r .lent .part0) (r .lent .part1) ≡ true
-        = no-fault (x .drive) (keptOf (x .tells)) (r .lent .part0) (r .lent .part1) (acts-after rec cmd p0 p1 sent received w o refl q) (kept-whole (x .tells)) in
+        = no-fault (x .drive) (keptOf (x .tells)) (r .lent .part0) (r .lent .part1) (acts-after rec (lent cmd p0 p1 sent received) w o q) (kept-whole (x .tells)) in
         subst Faultless (sym e) y
 
 -- and no command is refused with 4

@@ -30,7 +30,7 @@ use Rattle.commands.specs.Call.{lent, Result, seen, commandTests, commandCall, 
 use Rattle.commands.proofs.Classes.{Class, blocks, filemarks, erasing, quiet, classify, no-offers, no-events}
 use Rattle.history.specs.History.{isGood, caused}
 use Rattle.history.specs.Answered.{bytesPut, Answered}
-use Rattle.history.proofs.Faultless.{back, place-small}
+use Rattle.commands.proofs.Faultless.{back, place-small}
 use Rattle.history.proofs.Ended.{Ended, by-number, by-sense, by-act, ended, nothing-caused, fitting-first}
 use Rattle.history.proofs.Acted.{none-down, no-marks, acts-caused}
 
@@ -180,4 +180,4 @@ module _ (rec cmd p0 p1 sent received : List ℕ) where
       go : Ended rec cmd p0 p1 sent received → Answered rec cmd p0 p1 sent received
       go (by-number n h f e) = when-stopped _ f _ e (rw (ne-eqb n 0 (λ z. omega arith)) refl) refl refl
       go (by-sense s f x b w p l e) = when-stopped s f _ e refl refl (ap (λ (y : Drive). y .position) (back x b (place-small x p0 p1 (w .cart)) (w .small) l) ∙ p)
-      go (by-act f w q e) = when-acted (operationOf (codeOf cmd)) refl f _ e refl (acts-caused rec cmd p0 p1 sent received w (operationOf (codeOf cmd)) refl q)
+      go (by-act f w q e) = when-acted (operationOf (codeOf cmd)) refl f _ e refl (acts-caused rec (lent cmd p0 p1 sent received) w (operationOf (codeOf cmd)) q refl)

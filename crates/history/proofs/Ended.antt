@@ -29,7 +29,7 @@ use Rattle.commands.specs.Step.{checkAnswer, stopped, acted}
 use Rattle.commands.specs.Call.{lent, Result, result, seen, inserted, written, commandTests, commandCall, applied, looksAt}
 use Rattle.commands.proofs.Exact.{call-stops, call-acts, refused-leaves}
 use Rattle.history.specs.History.{isGood, caused}
-use Rattle.history.proofs.Faultless.{Cart, no-cart, one-part, two-parts, Well, fault-free, sense-whole, attention-whole}
+use Rattle.commands.proofs.Faultless.{Cart, no-cart, one-part, two-parts, Well, fault-free, sense-whole, attention-whole}
 
 -- ---- lists of tests
 

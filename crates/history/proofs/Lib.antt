@@ -1,7 +1,5 @@
 pub mod Lives
 pub mod Lists
-pub mod Turned
-pub mod Faultless
 pub mod Ended
 pub mod Acted
 pub mod Answered

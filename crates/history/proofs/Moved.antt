@@ -25,7 +25,7 @@ use Rattle.mode.specs.Mode.{wholeLength, headerLength, headerRight, descriptorR
 use Rattle.commands.specs.Act.{Seen, Deed, good, checked, carrying, endTold, at, atPartition, withLength, hidden, reading, readVariable, movement, spacing, overBlocks, toEnd, targetOf, locating, selecting}
 use Rattle.commands.specs.Call.{partition}
 use Rattle.history.proofs.Lists.{get-lt}
-use Rattle.history.proofs.Faultless.{Cart, no-cart, one-part, two-parts, Well}
+use Rattle.commands.proofs.Faultless.{Cart, no-cart, one-part, two-parts, Well}
 
 -- ---- the cartridge of a drive that moved
 

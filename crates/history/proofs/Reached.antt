@@ -3,6 +3,7 @@
 use Prim.Native.Nat.{ℕ, _<_, zero-le}
 use native.Mathlib.Omega.{arith}
 use mathlib.Core.Path.{_≡_, refl, ap, _∙_, subst}
+use mathlib.Core.Bool.{false}
 use mathlib.Core.Option.{none}
 use mathlib.Core.List.{List}
 use borrow.Author.Tests.{eq-eqb, ne-eqb, le-ltb, lt-leb, le-leb}
@@ -17,16 +18,16 @@ use Rattle.codes.specs.declared.operation.Operation.the-variants.{Locate, Rewin
 use Rattle.codes.specs.Codes.{codeOf, operationOf, tooShort, inMasks, masksHold}
 use Rattle.codes.specs.Fields.{changesPartition, partitionOf, objectOf}
 use Rattle.commands.specs.Stop.{first}
+use Rattle.commands.specs.Kinds.{writes}
 use Rattle.commands.specs.Act.{Seen, Deed, good, atPartition, targetOf, locateTells, locating, act, eventsOf}
 use Rattle.commands.specs.Tests.{tests, fieldError, taken, replyLength, needed}
 use Rattle.commands.specs.Step.{acted, statusOf, keptOf}
 use Rattle.commands.specs.Call.{lent, Result, seen, written, commandTests, commandCall, laidOut, applied, looksAt}
 use Rattle.commands.proofs.Exact.{call-acts}
-use Rattle.commands.proofs.Classes.{unchanged}
 use Rattle.history.specs.History.{Slot, slot0, slot1, number, cartridge, isGood, slicesLeft}
 use Rattle.history.specs.Demand3.{NoFault, Mounted, locateFirst, rewind, Reached}
-use Rattle.history.proofs.Faultless.{fault-free, back}
-use Rattle.history.proofs.Acted.{acts, unaltered, kept-whole}
+use Rattle.commands.proofs.Faultless.{fault-free, back, kept-whole}
+use Rattle.history.proofs.Acted.{idle}
 use Rattle.history.proofs.Always.{command-faultless}
 
 module _ (rec p0 p1 sent received : List ℕ) (m : Mounted rec (cartridge p0 p1)) where
@@ -44,15 +45,15 @@ module _ (rec p0 p1 sent received : List ℕ) (m : Mounted rec (cartridge p0 p1)
 
   -- a command that acts, alters nothing and leaves the drive at the beginning of partition k
   reaches : (s : Slot) (cmd : List ℕ) (o : Operation) → operationOf (codeOf cmd) ≡ o → first (commandTests rec (lent cmd p0 p1 sent received)) ≡ none
-      → ((v : Seen) (p : List ℕ) → laidOut (acted o (decodeOf rec) cmd sent v) p ≡ p) → ((v : Seen) → act o (decodeOf rec) cmd sent v ≡ good (atPartition (decodeOf rec) (number s) 0))
+      → writes o ≡ false → ((v : Seen) → act o (decodeOf rec) cmd sent v ≡ good (atPartition (decodeOf rec) (number s) 0))
       → Reached s (cartridge p0 p1) (commandCall rec (lent cmd p0 p1 sent received))
   unfolding applied acted withSense statusOf
   reaches s cmd o eo e c g =
       let w = fault-free rec p0 p1 (m .no-fault) in
       let v : Seen = seen o (decodeOf rec) (lent cmd p0 p1 sent received) in
       let r : Result = commandCall rec (lent cmd p0 p1 sent received) in
-      let q : r ≡ acts rec cmd p0 p1 sent received o eo = call-acts rec (lent cmd p0 p1 sent received) e ∙ ap (λ (x : Operation). written rec (applied (acted x (decodeOf rec) cmd sent (seen x (decodeOf rec) (lent cmd p0 p1 sent received))) (looksAt x (decodeOf rec) cmd) (lent cmd p0 p1 sent received))) eo in
-      let same : slicesLeft r ≡ cartridge p0 p1 = ap slicesLeft q ∙ unaltered rec cmd p0 p1 sent received o eo c in
+      let q : r ≡ written rec (applied (acted o (decodeOf rec) cmd sent v) (looksAt o (decodeOf rec) cmd) (lent cmd p0 p1 sent received)) = call-acts rec (lent cmd p0 p1 sent received) e ∙ ap (λ (x : Operation). written rec (applied (acted x (decodeOf rec) cmd sent (seen x (decodeOf rec) (lent cmd p0 p1 sent received))) (looksAt x (decodeOf rec) cmd) (lent cmd p0 p1 sent received))) eo in
+      let same : slicesLeft r ≡ cartridge p0 p1 = ap slicesLeft q ∙ idle rec (lent cmd p0 p1 sent received) o c in
       let d : decodeOf (r .rec) ≡ withSense (atPartition (decodeOf rec) (number s) 0) (keptOf (act o (decodeOf rec) cmd sent v .tells))
       = ap (λ (x : Result). decodeOf (x .rec)) q
       ∙ ap (λ (x : Drive). decodeOf (encodeOf (withSense x (keptOf (act o (decodeOf rec) cmd sent v .tells))))) (ap (λ (x : Deed). x .drive) (g v))
@@ -75,8 +76,8 @@ module _ (rec p0 p1 sent received : List ℕ) (m : Mounted rec (cartridge p0 p1)
 
   pub locate-reaches : (s : Slot) → number s < decodeOf rec .partitions → Reached s (cartridge p0 p1) (commandCall rec (lent (locateFirst s) p0 p1 sent received))
   unfolding act
-  locate-reaches s h = reaches s (locateFirst s) Locate refl (locate-passes s h) (unchanged Locate refl (decodeOf rec) (locateFirst s) sent) (λ v. located s v)
+  locate-reaches s h = reaches s (locateFirst s) Locate refl (locate-passes s h) refl (λ v. located s v)
 
   pub rewind-reaches : (s : Slot) → decodeOf rec .current ≡ number s → Reached s (cartridge p0 p1) (commandCall rec (lent rewind p0 p1 sent received))
   unfolding act
-  rewind-reaches s h = reaches s rewind Rewind refl rewind-passes (unchanged Rewind refl (decodeOf rec) rewind sent) (λ v. ap (λ (k : ℕ). good (atPartition (decodeOf rec) k 0)) h)
+  rewind-reaches s h = reaches s rewind Rewind refl rewind-passes refl (λ v. ap (λ (k : ℕ). good (atPartition (decodeOf rec) k 0)) h)

@@ -37,8 +37,7 @@ use Rattle.image.specs.Changes.{occurs}
 use Rattle.commands.proofs.Classes.{unchanged}
 use Rattle.history.specs.History.{Slot, slot0, slot1, number, Cartridge, cartridge, part, slicesLeft}
 use Rattle.history.specs.Demand3.{NoFault, Mounted, AtBeginning, readLargest, Reading, readOnce, Met, object, endOfData, nothingKnown, says, metOf, readings, readThrough, meetings}
-use Rattle.history.proofs.Faultless.{Well, fault-free, back, place-small, sense-whole}
-use Rattle.history.proofs.Acted.{Inside, inside, seen-there, kept-whole}
+use Rattle.commands.proofs.Faultless.{Well, fault-free, back, place-small, sense-whole, Inside, inside, seen-there, kept-whole}
 use Rattle.history.proofs.Lists.{get-lt, get-getD, drop-none, drop-some}
 use Rattle.history.proofs.Always.{command-faultless}
 

@@ -24,10 +24,10 @@ use Rattle.record.specs.Record.{decodeOf, withSense}
 use Rattle.codes.specs.Codes.{codeOf, operationOf}
 use Rattle.commands.specs.Call.{lent, Result, result, commandCall}
 use Rattle.history.specs.History.{Slot, slot0, slot1, number, Cartridge, cartridge, part, MadeBlank, Lending, together, alone, Call, command, mount, protection, slicesLeft, after, caused, events, ends, past}
-use Rattle.history.proofs.Faultless.{back, place-small}
-use Rattle.history.proofs.Turned.{Turned, still}
+use Rattle.commands.proofs.Faultless.{back, place-small}
+use Rattle.commands.proofs.Laid.{Turned, still}
 use Rattle.history.proofs.Ended.{Ended, by-number, by-sense, by-act, ended, nothing-caused}
-use Rattle.history.proofs.Acted.{acts-shown}
+use Rattle.history.proofs.Acted.{acts, acts-turned, acts-caused}
 
 -- ---- a command, on the partition of each slot
 
@@ -51,7 +51,10 @@ shown s rec cmd p0 p1 sent received k = go (ended rec cmd p0 p1 sent received)
     go (by-sense z f x b w p l e) =
         subst (Shown s rec cmd p0 p1 sent) (sym e)
         (unchanged s rec cmd p0 p1 sent _ (nothing-caused rec cmd sent _ refl (ap (λ y. y .position) (back x b (place-small x p0 p1 (w .cart)) (w .small) l) ∙ p)) refl k)
-    go (by-act f w q e) = subst (Shown s rec cmd p0 p1 sent) (sym e) (acts-shown rec cmd p0 p1 sent received w (operationOf (codeOf cmd)) refl q s k)
+    go (by-act f w q e) =
+        subst (Shown s rec cmd p0 p1 sent) (sym e)
+        (subst (λ (es : List Event). Turned (cond (eqb (decodeOf rec .current) (number s)) es []) (part s (cartridge p0 p1)) (part s (slicesLeft (acts rec (lent cmd p0 p1 sent received) w (operationOf (codeOf cmd)) q))))
+        (sym (acts-caused rec (lent cmd p0 p1 sent received) w (operationOf (codeOf cmd)) q refl)) (acts-turned rec (lent cmd p0 p1 sent received) w (operationOf (codeOf cmd)) q s k))
 
 -- ---- one call
 
