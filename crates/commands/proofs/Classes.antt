@@ -4,17 +4,15 @@
 use Prim.Native.Nat.{ℕ}
 use native.Mathlib.Omega.{arith}
 use mathlib.Core.Path.{_≡_, refl, sym, ap, _∙_}
-use mathlib.Core.Bool.{Bool, true, false, cond, _&&_}
-use mathlib.Core.List.{List, [], _∷_}
+use mathlib.Core.Bool.{Bool, true, false, cond}
+use mathlib.Core.List.{List, []}
 use borrow.Author.Tests.{eqb-true}
 use lib.Dec.{eqb}
-use Rattle.objects.specs.Object.{Object}
 use Rattle.image.specs.Changes.{occurs}
 use Rattle.record.specs.declared.drive.Drive.{Drive}
 use Rattle.codes.specs.declared.operation.Operation.{Operation}
 use Rattle.codes.specs.declared.operation.Operation.the-variants.{Write, WriteFilemarks, Erase}
 use Rattle.codes.specs.Codes.{numberOf, operationOf}
-use Rattle.codes.specs.Fields.{longOf}
 use Rattle.codes.proofs.Rules.{operation-number}
 use Rattle.transfer.specs.Transfer.{fitting, putFrom}
 use Rattle.commands.specs.Kinds.{erases, locates, writes}

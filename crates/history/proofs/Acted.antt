@@ -1,6 +1,6 @@
 -- A command that acts: what it leaves of each of the two slices is what its events make of it; and these are what its caller sees that it put or erased.
 -- Assumes nothing.
-use Prim.Native.Nat.{ℕ, zero, suc, _+_, _-_, _^_, _≤_, _<_}
+use Prim.Native.Nat.{ℕ, zero, suc, _+_, _-_, _≤_, _<_}
 use native.Mathlib.Nat.{add-zero}
 use native.Mathlib.Omega.{arith}
 use mathlib.Core.Path.{_≡_, refl, sym, ap, _∙_, subst}
@@ -21,7 +21,7 @@ use Rattle.image.proofs.Objects.{length-objects}
 use Rattle.record.specs.declared.drive.Drive.{Drive}
 use Rattle.record.specs.Record.{decodeOf, withSense}
 use Rattle.codes.specs.declared.operation.Operation.{Operation}
-use Rattle.codes.specs.declared.operation.Operation.the-variants.{Write, WriteFilemarks, Erase}
+use Rattle.codes.specs.declared.operation.Operation.the-variants.{Write, WriteFilemarks}
 use Rattle.codes.specs.Codes.{codeOf, operationOf}
 use Rattle.codes.specs.Fields.{fixedOf, transferOf}
 use Rattle.transfer.specs.Transfer.{blocksOf, marksOf, fitting, putFrom}

@@ -11,10 +11,8 @@ use lib.Dec.{eqb, leb}
 use lib.ListN.{length, take, length-take}
 use Rattle.answers.specs.declared.Answer.{Answer}
 use Rattle.answers.specs.Answers.{recordFault, alreadyLoaded, unsoundImage, wrongLength, refused, done, left}
-use Rattle.objects.specs.Object.{Object}
 use Rattle.objects.specs.Events.{happen, happens}
 use Rattle.image.specs.Image.{rightLength, sound, count, objects}
-use Rattle.image.specs.Changes.{occurs}
 use Rattle.image.specs.Services.{faultOf, protectCall}
 use Rattle.image.proofs.Facts.{Sound, sound-parts}
 use Rattle.image.proofs.Tests.{both}
@@ -26,7 +24,6 @@ use Rattle.codes.specs.declared.operation.Operation.the-variants.{TestUnitReady
 use Rattle.codes.specs.Codes.{codeOf, operationOf}
 use Rattle.codes.specs.Fields.{changesPartition, partitionOf}
 use Rattle.cartridge.specs.Mount.{absent, partitionsOf, rightLengths, bothSound, mountFault, mountCall}
-use Rattle.transfer.specs.Transfer.{putFrom}
 use Rattle.commands.specs.Stop.{refuse, first}
 use Rattle.commands.specs.Kinds.{erases, locates, needsCartridge, writes}
 use Rattle.commands.specs.Act.{Seen, at, targetOf, locating, goesDown, act, eventsOf}

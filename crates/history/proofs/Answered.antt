@@ -17,7 +17,7 @@ use Rattle.sense.specs.declared.Sense.{Sense}
 use Rattle.record.specs.declared.drive.Drive.{Drive}
 use Rattle.record.specs.Record.{decodeOf, withSense}
 use Rattle.codes.specs.declared.operation.Operation.{Operation}
-use Rattle.codes.specs.declared.operation.Operation.the-variants.{Write, WriteFilemarks, Erase}
+use Rattle.codes.specs.declared.operation.Operation.the-variants.{Write, WriteFilemarks}
 use Rattle.codes.specs.Codes.{codeOf, operationOf}
 use Rattle.codes.specs.Fields.{fixedOf, transferOf}
 use Rattle.transfer.specs.Transfer.{blocksOf, marksOf, putFrom}

@@ -17,7 +17,6 @@ use Rattle.sense.specs.Sense.{senseLength, senseBytes, plainly, attentionSense}
 use Rattle.record.specs.declared.drive.Drive.{Drive}
 use Rattle.record.specs.Record.{attentionKnown, decodeOf, encodeOf, wellRecord, withSense}
 use Rattle.codes.specs.declared.operation.Operation.{Operation}
-use Rattle.codes.specs.declared.operation.Operation.the-variants.{Erase}
 use Rattle.codes.specs.Codes.{codeOf, tooShort, operationOf}
 use Rattle.transfer.specs.Transfer.{fitting, putFrom}
 use Rattle.transfer.proofs.Going.{fitting-more, fitting-none}

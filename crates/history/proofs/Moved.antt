@@ -8,7 +8,6 @@ use mathlib.Core.Option.{Option, none, some}
 use mathlib.Core.List.{List, [], _∷_}
 use borrow.Author.Tests.{leb-true}
 use lib.Dec.{eqb, leb}
-use lib.IntN.{pos}
 use lib.ListN.{length, drop, getElem?, length-drop}
 use Rattle.words.specs.Words.{be}
 use Rattle.sense.specs.Sense.{illegalRequest, plainly}
@@ -22,7 +21,7 @@ use Rattle.record.specs.Record.{loadedAnew, unloaded}
 use Rattle.codes.specs.Fields.{fixedOf, transferOf, spaceCodeOf, spaceCountOf, objectOf, allocationOf, loadOf}
 use Rattle.transfer.specs.Transfer.{Run, runOf, after, halted, oddLength}
 use Rattle.mode.specs.Mode.{wholeLength, headerLength, headerRight, descriptorRight, listRight, newLength}
-use Rattle.commands.specs.Act.{Seen, Deed, good, checked, carrying, endTold, at, atPartition, withLength, hidden, reading, readVariable, movement, spacing, overBlocks, toEnd, targetOf, locating, selecting}
+use Rattle.commands.specs.Act.{Seen, Deed, good, checked, carrying, at, atPartition, withLength, hidden, reading, readVariable, movement, spacing, overBlocks, toEnd, targetOf, locating, selecting}
 use Rattle.commands.specs.Call.{partition}
 use Rattle.history.proofs.Lists.{get-lt}
 use Rattle.commands.proofs.Faultless.{Cart, no-cart, one-part, two-parts, Well}

@@ -3,7 +3,7 @@
 use Prim.Native.Nat.{ℕ, zero, suc, _<_}
 use native.Mathlib.Nat.{not-suc-le-zero, le-of-suc-le-suc}
 use native.Mathlib.Omega.{arith}
-use mathlib.Core.Path.{_≡_, refl, ap}
+use mathlib.Core.Path.{_≡_, ap}
 use mathlib.Core.Logic.{_↔_, _⊎_}
 use mathlib.Core.Bool.{true}
 use mathlib.Core.Option.{some}
@@ -16,7 +16,7 @@ use Rattle.image.specs.Image.{sound, objects}
 use Rattle.image.proofs.Facts.{sound-of}
 use Rattle.record.specs.Record.{noAttention, decodeOf}
 use Rattle.cartridge.specs.Mount.{mountCall}
-use Rattle.history.specs.History.{Slot, number, Cartridge, part, MadeBlank, together, Call, commanded, after, ends, past}
+use Rattle.history.specs.History.{Slot, number, Cartridge, part, MadeBlank, together, Call, commanded, ends, past}
 use Rattle.history.specs.Answered.{Answered}
 use Rattle.history.specs.Demand3.{NoFault, Mounted, AtBeginning, Reading, object, readings, meetings, Demand3, locateFirst, rewind, Reached}
 use Rattle.history.specs.Always.{Use, callsOf, recordUsed, AlwaysSo}

@@ -10,7 +10,6 @@ use borrow.Author.Tests.{eq-eqb, ne-eqb, le-ltb, lt-leb, le-leb}
 use lib.ListN.{length}
 use Rattle.words.specs.Words.{be, bytes}
 use Rattle.objects.specs.Movement as M
-use Rattle.image.specs.Changes.{occurs}
 use Rattle.record.specs.declared.drive.Drive.{Drive}
 use Rattle.record.specs.Record.{noAttention, decodeOf, encodeOf, withSense}
 use Rattle.codes.specs.declared.operation.Operation.{Operation}
@@ -19,10 +18,10 @@ use Rattle.codes.specs.Codes.{codeOf, operationOf, tooShort, inMasks, masksHold
 use Rattle.codes.specs.Fields.{changesPartition, partitionOf, objectOf}
 use Rattle.commands.specs.Stop.{first}
 use Rattle.commands.specs.Kinds.{writes}
-use Rattle.commands.specs.Act.{Seen, Deed, good, atPartition, targetOf, locateTells, locating, act, eventsOf}
+use Rattle.commands.specs.Act.{Seen, Deed, good, atPartition, targetOf, locateTells, locating, act}
 use Rattle.commands.specs.Tests.{tests, fieldError, taken, replyLength, needed}
 use Rattle.commands.specs.Step.{acted, statusOf, keptOf}
-use Rattle.commands.specs.Call.{lent, Result, seen, written, commandTests, commandCall, laidOut, applied, looksAt}
+use Rattle.commands.specs.Call.{lent, Result, seen, written, commandTests, commandCall, applied, looksAt}
 use Rattle.commands.proofs.Exact.{call-acts}
 use Rattle.history.specs.History.{Slot, slot0, slot1, number, cartridge, isGood, slicesLeft}
 use Rattle.history.specs.Demand3.{NoFault, Mounted, locateFirst, rewind, Reached}

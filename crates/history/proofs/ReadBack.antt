@@ -1,6 +1,6 @@
 -- Demand 3, second half: variable reads of the largest block meet the objects ahead one by one, and then end of data.
 -- Assumes nothing.
-use Prim.Native.Nat.{ℕ, zero, suc, _+_, _^_, _≤_, _<_, zero-le}
+use Prim.Native.Nat.{ℕ, suc, _+_, _^_, _≤_, _<_, zero-le}
 use native.Mathlib.Omega.{arith}
 use mathlib.Core.Path.{_≡_, refl, sym, ap, _∙_, subst}
 use mathlib.Core.Bool.{Bool, true, false, cond, _&&_, _||_}
@@ -9,7 +9,7 @@ use mathlib.Core.List.{List, [], _∷_}
 use borrow.Author.Tests.{eq-eqb, ne-eqb, le-ltb}
 use lib.Dec.{eqb}
 use lib.IntN.{ℤ, pos, subℕ}
-use lib.ListN.{length, take, drop, getD, getElem?}
+use lib.ListN.{length, take, drop, getElem?}
 use lib.Seq.{take-all, take-append-seam}
 use Rattle.words.specs.Words.{be, bytes, over}
 use Rattle.words.specs.Signed.{wrapped}
@@ -28,12 +28,11 @@ use Rattle.codes.specs.declared.operation.Operation.the-variants.{Read}
 use Rattle.codes.specs.Codes.{tooShort, inMasks, masksHold}
 use Rattle.codes.specs.Fields.{fixedOf, siliOf, transferOf}
 use Rattle.commands.specs.Stop.{first}
-use Rattle.commands.specs.Act.{Seen, Deed, good, checked, giving, at, hidden, oddMet, filemarkMet, endMet, readVariable, reading, act, eventsOf}
+use Rattle.commands.specs.Act.{Seen, Deed, good, checked, giving, at, hidden, oddMet, filemarkMet, endMet, readVariable, reading, act}
 use Rattle.commands.specs.Tests.{tests, bytesAsked, fieldError, taken, needed}
 use Rattle.commands.specs.Step.{acted, statusOf, keptOf}
 use Rattle.commands.specs.Call.{Lent, lent, Result, result, partition, looksAt, seenOf, commandTests, commandCall, applied}
 use Rattle.commands.proofs.Exact.{call-acts}
-use Rattle.image.specs.Changes.{occurs}
 use Rattle.commands.proofs.Classes.{unchanged}
 use Rattle.history.specs.History.{Slot, slot0, slot1, number, Cartridge, cartridge, part, slicesLeft}
 use Rattle.history.specs.Demand3.{NoFault, Mounted, AtBeginning, readLargest, Reading, readOnce, Met, object, endOfData, nothingKnown, says, metOf, readings, readThrough, meetings}

@@ -5,12 +5,11 @@ use native.Mathlib.Nat.{zero-mul, suc-mul, mul-le-mul-right, not-suc-le-zero}
 use native.Mathlib.Omega.{arith}
 use native.Mathlib.Decide.{decLe}
 use mathlib.Core.Path.{_≡_, refl, sym, ap, ap₂, _∙_, subst}
-use mathlib.Core.Logic.{_⊎_, inl, inr}
+use mathlib.Core.Logic.{inl, inr}
 use mathlib.Core.Bool.{Bool, true, false, cond, not}
 use mathlib.Core.Option.{Option, none, some}
-use mathlib.Core.List.{List, [], _∷_, _++_, append-assoc}
+use mathlib.Core.List.{List, [], _∷_, _++_}
 use borrow.Author.Tests.{lt-ltb, ne-eqb}
-use lib.Dec.{eqb}
 use lib.ListN.{length, take, drop, getElem?, length-take}
 use lib.Seq.{slice, drop-drop}
 use Rattle.objects.specs.Object.{Object, filemark, block, dataOf, bytesIn}
@@ -22,23 +21,22 @@ use Rattle.image.proofs.Facts.{Sound, sound-of}
 use Rattle.image.proofs.Objects.{length-objects, object-is, object-data}
 use Rattle.record.specs.declared.drive.Drive.{Drive}
 use Rattle.record.specs.Record.{decodeOf}
-use Rattle.codes.specs.declared.operation.Operation.{Operation}
-use Rattle.codes.specs.declared.operation.Operation.the-variants.{Write, WriteFilemarks, Erase}
+use Rattle.codes.specs.declared.operation.Operation.the-variants.{Write}
 use Rattle.codes.specs.Codes.{codeOf, operationOf}
 use Rattle.codes.specs.Fields.{fixedOf, transferOf}
 use Rattle.transfer.specs.Transfer.{blocksOf, marksOf, putFrom}
 use Rattle.commands.specs.Stop.{Stop, first}
-use Rattle.commands.specs.Kinds.{erases, writes}
+use Rattle.commands.specs.Kinds.{writes}
 use Rattle.commands.specs.Act.{offered}
 use Rattle.commands.specs.Step.{acted}
 use Rattle.commands.specs.Call.{lent, Result, commandTests, commandCall, applied}
 use Rattle.commands.proofs.Classes.{no-erase, no-offers}
 use Rattle.history.specs.History.{Slot, slot0, slot1, number, Cartridge, part, MadeBlank, Lending, slices, isLentAs, Call, command, mount, protection, commanded, after, caused, events, ends, past}
-use Rattle.history.specs.Demand3.{Mounted, AtBeginning, Reading, Met, readings, meetings}
-use Rattle.history.specs.Tiles.{Kept, tileLength, tileOf, TilePut, MarkPut, TileKept, MarkKept, Harmless, AllHarmless, Agree}
+use Rattle.history.specs.Demand3.{meetings}
+use Rattle.history.specs.Tiles.{Kept, tileLength, tileOf, TileKept, MarkKept, Harmless, AllHarmless, Agree}
 use Rattle.history.proofs.Lists.{get-lt, get-getD}
 use Rattle.history.proofs.Ended.{Ended, by-number, by-sense, by-act, ended, nothing-offered}
-use Rattle.history.proofs.Answered.{puts-bytes, length-blocks, length-marks, answered}
+use Rattle.history.proofs.Answered.{puts-bytes, length-blocks, answered}
 use Rattle.history.proofs.Told.{told, still-sound, none-either, past-append}
 use Rattle.history.proofs.ReadBack.{meets}
 use Rattle.history.proofs.Proved.{demand3}

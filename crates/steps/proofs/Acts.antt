@@ -6,7 +6,7 @@ use mathlib.Core.Path.{_≡_, refl, sym, ap, _∙_}
 use mathlib.Core.Bool.{Bool, true, false, cond, not}
 use mathlib.Core.List.{List, []}
 use borrow.Author.Tests.{ne-eqb, eqb-true}
-use lib.Dec.{eqb, leb}
+use lib.Dec.{eqb}
 use lib.IntN.{ℤ, subℕ}
 use lib.ListN.{length, take}
 use Rattle.words.specs.Words.{over}
@@ -18,13 +18,12 @@ use Rattle.record.specs.declared.drive.Drive.{Drive}
 use Rattle.record.specs.Record.{loadedAnew, unloaded}
 use Rattle.codes.specs.declared.operation.Operation.{Operation}
 use Rattle.codes.specs.declared.operation.Operation.the-variants.{TestUnitReady, Rewind, RequestSense, ReadBlockLimits, Read, Write, WriteFilemarks, Space, ModeSelect, Erase, ModeSense, LoadUnload, Locate, ReadPosition, NotServed}
-use Rattle.codes.specs.Codes.{numberOf, operationOf}
-use Rattle.codes.specs.Fields.{loadOf, allocationOf, transferOf, fixedOf, spaceCodeOf, objectOf}
-use Rattle.codes.proofs.Rules.{operation-number}
+use Rattle.codes.specs.Codes.{numberOf}
+use Rattle.codes.specs.Fields.{loadOf, allocationOf, transferOf, fixedOf}
 use Rattle.mode.specs.Mode.{listRight}
 use Rattle.commands.specs.declared.deeds.Left.{Left}
 use Rattle.commands.specs.Kinds.{isServed, needsCartridge, writes}
-use Rattle.commands.specs.Act.{Seen, Deed, good, at, carrying, reading, writing, marking, spacing, locating, selecting, replyOf, act, eventsOf, offered, goesDown, wrote, toEnd}
+use Rattle.commands.specs.Act.{Seen, Deed, good, at, carrying, reading, writing, marking, spacing, locating, selecting, replyOf, act, eventsOf, offered, goesDown, wrote}
 use Rattle.commands.specs.Step.{acted}
 use Rattle.commands.specs.Call.{seenOf, nothing, laidOut}
 use Rattle.commands.specs.Left.{leftBy, protectedOnly}

@@ -5,7 +5,7 @@ use native.Mathlib.Omega.{arith}
 use mathlib.Core.Path.{_≡_, refl, sym, ap, _∙_}
 use mathlib.Core.Bool.{Bool, true, false, cond, _&&_}
 use mathlib.Core.Option.{none, some}
-use mathlib.Core.List.{List, [], _∷_}
+use mathlib.Core.List.{List}
 use borrow.Author.Tests.{ne-eqb}
 use lib.Dec.{eqb, leb}
 use lib.ListN.{length}
@@ -26,7 +26,7 @@ use Rattle.commands.specs.Kinds.{needsCartridge, locates, writes}
 use Rattle.commands.specs.Tests.{tests}
 use Rattle.commands.specs.Act.{Seen, unattended, targetOf}
 use Rattle.commands.specs.Step.{checkAnswer, stopped, acted}
-use Rattle.commands.specs.Call.{Lent, lent, partition, looksAt, seenOf, nothing, seen, inserted, outcome, laidOut, applied, stepOf}
+use Rattle.commands.specs.Call.{lent, partition, looksAt, seenOf, nothing, seen, inserted, outcome, laidOut, applied, stepOf}
 use Rattle.commands.specs.Left.{protectedOnly}
 use Rattle.stops.specs.declared.Stop.{Stop}
 use Rattle.stops.specs.declared.Stop.the-variants.{Refuse, Attend, Fault, Pass}

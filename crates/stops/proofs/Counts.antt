@@ -7,15 +7,14 @@ use mathlib.Core.List.{List, [], _∷_}
 use Prim.Native.Nat.{ℕ, _≤_, _<_, min}
 use borrow.Author.Tests.{eq-eqb, ne-eqb, lt-ltb, le-ltb}
 use lib.Dec.{eqb, ltb}
-use lib.ListN.{length, take, length-take}
-use Rattle.words.specs.Words.{bytes, limited}
-use Rattle.objects.specs.Object.{filemarksIn}
+use lib.ListN.{length}
+use Rattle.words.specs.Words.{bytes}
 use Rattle.sense.specs.Sense.{senseLength, senseBytes, attentionSense}
 use Rattle.record.specs.declared.drive.Drive.{Drive}
 use Rattle.record.specs.Record.{noAttention}
 use Rattle.codes.specs.declared.operation.Operation.{Operation}
-use Rattle.codes.specs.declared.operation.Operation.the-variants.{RequestSense, ReadBlockLimits, Write, ModeSelect, ModeSense, ReadPosition}
-use Rattle.codes.specs.Fields.{dbdOf, formOf, allocationOf}
+use Rattle.codes.specs.declared.operation.Operation.the-variants.{Write, ModeSelect}
+use Rattle.codes.specs.Fields.{allocationOf}
 use Rattle.mode.specs.Mode.{shortLength, longLength}
 use Rattle.commands.specs.Kinds.{among}
 use Rattle.commands.specs.Act.{shortForm, senseAsked}

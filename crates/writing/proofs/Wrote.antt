@@ -1,16 +1,16 @@
 -- What WRITE, WRITE FILEMARKS and ERASE leave, return by return: the objects that went down are those of the definition, and the zone that the image
 -- shows after them is the one that the definition computes.
 -- Assumes nothing.
-use Prim.Native.Nat.{ℕ, zero, suc, _+_, _*_, _^_, _<_, _≤_}
+use Prim.Native.Nat.{ℕ, _+_, _*_, _^_, _<_, _≤_}
 use native.Mathlib.Omega.{arith}
 use mathlib.Core.Bool.{Bool, true, false, cond}
 use mathlib.Core.Path.{_≡_, refl, sym, ap, _∙_}
 use mathlib.Core.List.{List, [], _∷_}
-use borrow.Author.Tests.{eq-eqb, ne-eqb, eqb-false, ltb-false}
+use borrow.Author.Tests.{eq-eqb, ne-eqb}
 use lib.Dec.{eqb}
 use lib.IntN.{ℤ, subℕ}
 use lib.ListN.{length, take}
-use Rattle.objects.specs.Object.{Object, block, bytesIn, largestBlock}
+use Rattle.objects.specs.Object.{Object, block, bytesIn}
 use Rattle.objects.specs.Events.{cut}
 use Rattle.objects.specs.Room.{roomOf, zoneIn}
 use Rattle.image.specs.Image.{count, endAt, room, zone, objects, sound}
