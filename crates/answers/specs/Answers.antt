@@ -36,9 +36,13 @@ checkCondition = 0x02
 abbrev pub refused : ℕ → Answer
 refused n = record { refusal = n; status = 0; carried = 0 }
 
+-- not refused: its SCSI status, and the bytes carried
+abbrev pub answered : ℕ → ℕ → Answer
+answered status carried = record { refusal = 0; status = status; carried = carried }
+
 -- a house service done: 0, 0, 0
 abbrev pub done : Answer
-done = record { refusal = 0; status = 0; carried = 0 }
+done = answered 0 0
 
 -- the number of the first test that holds, in the order given; 0 for none
 abbrev pub firstOf : List (Bool × ℕ) → ℕ

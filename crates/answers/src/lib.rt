@@ -2,7 +2,7 @@
 ghost use mathlib.Core.Path.{_≡_};
 ghost use Prim.Native.Nat.{_<_, _^_};
 ghost use Rattle.answers.specs.Answers.{packed, packedPart};
-ghost use Rattle.answers.specs.Answers.{refused as Answers·refused, done as Answers·done};
+ghost use Rattle.answers.specs.Answers.{answered as Answers·answered, refused as Answers·refused, done as Answers·done};
 
 // The refusals of document 01's table.
 pub const COMMAND_SHORT: u8 = 1;
@@ -39,14 +39,21 @@ pub fn refused(number: u8) -> Answer
     }
 }
 
-pub fn done() -> Answer
-    ensures { λ r. ⌜ r ≡ Answers·done ⌝ }
+// Not refused: its SCSI status, and the bytes carried.
+pub fn answered(status: u8, carried: u32) -> Answer
+    ensures { λ r. ⌜ r ≡ Answers·answered status carried ⌝ }
 {
     Answer {
         refusal: 0,
-        status: 0,
-        carried: 0,
+        status: status,
+        carried: carried,
     }
+}
+
+pub fn done() -> Answer
+    ensures { λ r. ⌜ r ≡ Answers·done ⌝ }
+{
+    answered(0, 0)
 }
 
 pub fn pack(a: Answer) -> u64

@@ -16,7 +16,7 @@ use Rattle.objects.specs.Room.{roomOf, zoneIn}
 use Rattle.sense.specs.declared.Sense.{Sense}
 use Rattle.sense.specs.Sense.{noSense, illegalRequest, blankCheck, volumeOverflow, told, plainly, attentionSense}
 use Rattle.record.specs.declared.drive.Drive.{Drive}
-use Rattle.record.specs.Record.{noAttention, loadedAnew, unloaded}
+use Rattle.record.specs.Record.{noAttention, drive, holding, loadedAnew, unloaded}
 use Rattle.codes.specs.declared.operation.Operation.{Operation}
 use Rattle.codes.specs.declared.operation.Operation.the-variants.{TestUnitReady, Rewind, RequestSense, ReadBlockLimits, Read, Write, WriteFilemarks, Space, ModeSelect, Erase, ModeSense, LoadUnload, Locate, ReadPosition, NotServed}
 use Rattle.codes.specs.Fields.{fixedOf, siliOf, transferOf, spaceCodeOf, spaceCountOf, changesPartition, objectOf, partitionOf, loadOf, formOf, dbdOf, allocationOf}
@@ -63,16 +63,16 @@ carrying n e = record { drive = e .drive; tells = e .tells; received = e .receiv
 
 -- the drive at position n
 abbrev pub at : Drive → ℕ → Drive
-at d n = record { loaded = d .loaded; partitions = d .partitions; current = d .current; attention = d .attention; position = n; «block_length» = d .«block_length»; sense = d .sense }
+at d n = holding d (d .loaded) (d .partitions) (d .current) n
 
 abbrev pub atPartition : Drive → ℕ → ℕ → Drive
-atPartition d k n = record { loaded = d .loaded; partitions = d .partitions; current = k; attention = d .attention; position = n; «block_length» = d .«block_length»; sense = d .sense }
+atPartition d k n = holding d (d .loaded) (d .partitions) k n
 
 abbrev pub withLength : Drive → ℕ → Drive
-withLength d n = record { loaded = d .loaded; partitions = d .partitions; current = d .current; attention = d .attention; position = d .position; «block_length» = n; sense = d .sense }
+withLength d n = drive (d .loaded) (d .partitions) (d .current) (d .attention) (d .position) n (d .sense)
 
 abbrev pub unattended : Drive → Drive
-unattended d = record { loaded = d .loaded; partitions = d .partitions; current = d .current; attention = noAttention; position = d .position; «block_length» = d .«block_length»; sense = d .sense }
+unattended d = drive (d .loaded) (d .partitions) (d .current) noAttention (d .position) (d .«block_length») (d .sense)
 
 -- ---- the senses of a command that reports its residue
 

@@ -6,7 +6,7 @@ use mathlib.Core.Bool.{Bool, false, _&&_}
 use mathlib.Core.Option.{Option, none, some}
 use mathlib.Core.List.{List, []}
 use Rattle.answers.specs.declared.Answer.{Answer}
-use Rattle.answers.specs.Answers.{checkCondition, refused}
+use Rattle.answers.specs.Answers.{checkCondition, refused, answered}
 use Rattle.objects.specs.Events.{Event}
 use Rattle.sense.specs.declared.Sense.{Sense}
 use Rattle.sense.specs.Sense.{senseBytes, plainly, emptySense, attentionSense}
@@ -43,7 +43,7 @@ keptOf (some s) = senseBytes s
 
 -- status 02h, nothing carried
 abbrev pub checkAnswer : Answer
-checkAnswer = record { refusal = 0; status = checkCondition; carried = 0 }
+checkAnswer = answered checkCondition 0
 
 -- ---- stopped, or done
 
@@ -62,7 +62,7 @@ unfoldable pub acted : Operation → Drive → List ℕ → List ℕ → Seen �
 acted o d cmd sent v =
     let e = act o d cmd sent v in
     record {
-      answer = record { refusal = 0; status = statusOf (e .tells); carried = e .carried };
+      answer = answered (statusOf (e .tells)) (e .carried);
       drive = withSense (e .drive) (keptOf (e .tells));
       laid = e .received;
       events = eventsOf o d cmd sent v;

@@ -4,6 +4,7 @@ use Prim.Native.Nat.{ℕ, zero, suc}
 use mathlib.Core.Path.{_≡_}
 use mathlib.Core.List.{List, [], _∷_, _++_}
 use lib.ListN.{replicate}
+use Rattle.answers.specs.Answers.{answered}
 use Rattle.words.specs.Words.{bytes, over, zeros}
 use Rattle.objects.specs.Object.{filemark, block}
 use Rattle.objects.specs.Events.{Event, put}
@@ -47,7 +48,7 @@ called c = commandCall (recordAt (c .from) (c .blockLength) nothingKept) (lent (
 
 abbrev pub expected : Case → Result
 expected c =
-    result (record { refusal = 0; status = c .status; carried = c .carried }) (recordAt (c .to) (c .blockLength) (c .sense))
+    result (answered (c .status) (c .carried)) (recordAt (c .to) (c .blockLength) (c .sense))
     (lent (c .command) (occurs (c .puts) (c .cartridge)) [] (c .sent) (over buffer 0 (c .received)))
 
 -- every case of a list is as expected

@@ -7,7 +7,7 @@ use mathlib.Core.List.{List, [], _∷_, _++_}
 use lib.ListN.{replicate}
 use Rattle.words.specs.Words.{bytes, zeros}
 use Rattle.answers.specs.declared.Answer.{Answer}
-use Rattle.answers.specs.Answers.{refused}
+use Rattle.answers.specs.Answers.{refused, answered}
 use Rattle.objects.specs.Object.{block}
 use Rattle.objects.specs.Events.{put}
 use Rattle.image.specs.Changes.{occurs, protect}
@@ -40,10 +40,10 @@ plain key asc ascq = line 0x70 key 0 asc ascq
 -- ---- answers
 
 abbrev pub good : ℕ → Answer
-good carried = record { refusal = 0; status = 0; carried = carried }
+good carried = answered 0 carried
 
 abbrev pub check : ℕ → Answer
-check carried = record { refusal = 0; status = 2; carried = carried }
+check carried = answered 2 carried
 
 -- ---- rows on one partition: what is lent besides, and what is left
 

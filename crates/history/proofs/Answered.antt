@@ -11,6 +11,7 @@ use lib.Dec.{eqb}
 use lib.IntN.{ℤ, subℕ}
 use lib.ListN.{length, take, drop}
 use lib.Seq.{take-all}
+use Rattle.answers.specs.Answers as Answers
 use Rattle.objects.specs.Object.{Object, block, dataOf, bytesIn}
 use Rattle.objects.specs.Room.{roomOf, zoneIn}
 use Rattle.sense.specs.declared.Sense.{Sense}
@@ -135,7 +136,7 @@ act-all o d cmd sent v h n = go (classify o) h n
     go (erasing e) h n = absurd (let x : true ≡ false = rw e at n in let z : _≡_ {A = ℕ} 0 1 = cc in omega arith)
     go (quiet m) h n = rw (no-offers o m d cmd sent) (no-events o m d cmd sent v)
 
-good-none : (t : Option Sense) (n : ℕ) → isGood (record { refusal = 0; status = statusOf t; carried = n }) ≡ true → t ≡ none
+good-none : (t : Option Sense) (n : ℕ) → isGood (Answers.answered (statusOf t) n) ≡ true → t ≡ none
 unfolding statusOf
 good-none none n h = refl
 good-none (some s) n h = absurd (let z : _≡_ {A = ℕ} 0 1 = cc in omega arith)
@@ -161,7 +162,7 @@ module _ (rec cmd p0 p1 sent received : List ℕ) where
 
   -- acted
   when-acted : (o : Operation) → operationOf (codeOf cmd) ≡ o → first (commandTests rec (lent cmd p0 p1 sent received)) ≡ none → (r : Result) → commandCall rec (lent cmd p0 p1 sent received) ≡ r
-      → r .answer ≡ record { refusal = 0; status = statusOf ((act o (decodeOf rec) cmd sent (seen o (decodeOf rec) (lent cmd p0 p1 sent received))) .tells); carried = (act o (decodeOf rec) cmd sent (seen o (decodeOf rec) (lent cmd p0 p1 sent received))) .carried }
+      → r .answer ≡ Answers.answered (statusOf ((act o (decodeOf rec) cmd sent (seen o (decodeOf rec) (lent cmd p0 p1 sent received))) .tells)) ((act o (decodeOf rec) cmd sent (seen o (decodeOf rec) (lent cmd p0 p1 sent received))) .carried)
       → caused rec cmd sent r ≡ eventsOf o (decodeOf rec) cmd sent (seen o (decodeOf rec) (lent cmd p0 p1 sent received)) → Answered rec cmd p0 p1 sent received
   when-acted o eo f r e a k =
       let v : Seen = seen o (decodeOf rec) (lent cmd p0 p1 sent received) in

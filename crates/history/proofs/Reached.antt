@@ -8,6 +8,7 @@ use mathlib.Core.Option.{none}
 use mathlib.Core.List.{List}
 use borrow.Author.Tests.{eq-eqb, ne-eqb, le-ltb, lt-leb, le-leb}
 use lib.ListN.{length}
+use Rattle.answers.specs.Answers.{answered}
 use Rattle.words.specs.Words.{be, bytes}
 use Rattle.objects.specs.Movement as M
 use Rattle.record.specs.declared.drive.Drive.{Drive}
@@ -58,7 +59,7 @@ module _ (rec p0 p1 sent received : List ℕ) (m : Mounted rec (cartridge p0 p1)
       ∙ ap (λ (x : Drive). decodeOf (encodeOf (withSense x (keptOf (act o (decodeOf rec) cmd sent v .tells))))) (ap (λ (x : Deed). x .drive) (g v))
       ∙ back (atPartition (decodeOf rec) (number s) 0) (keptOf (act o (decodeOf rec) cmd sent v .tells)) (omega arith) (w .small) (kept-whole (act o (decodeOf rec) cmd sent v .tells)) in
       record {
-        answered-good = ap (λ (x : Result). isGood (x .answer)) q ∙ ap (λ (x : Deed). isGood (record { refusal = 0; status = statusOf (x .tells); carried = x .carried })) (g v);
+        answered-good = ap (λ (x : Result). isGood (x .answer)) q ∙ ap (λ (x : Deed). isGood (answered (statusOf (x .tells)) (x .carried))) (g v);
         mounted = record {
           no-fault = subst (NoFault (r .rec)) same (command-faultless rec cmd p0 p1 sent received (m .no-fault));
           loaded = ap (λ (x : Drive). x .loaded) d ∙ m .loaded;

@@ -72,24 +72,34 @@ wellFormed d =
 unfoldable pub wellRecord : List ℕ → Bool
 wellRecord s = eqb (length s) recordLength && wellFormed (decodeOf s)
 
+-- ---- a drive made, and one changed
+
+abbrev pub drive : ℕ → ℕ → ℕ → ℕ → ℕ → ℕ → List ℕ → Drive
+drive loaded partitions current attention position blockLength sense =
+    record { loaded = loaded; partitions = partitions; current = current; attention = attention; position = position; «block_length» = blockLength; sense = sense }
+
+-- with another cartridge, or at another place of it
+abbrev pub holding : Drive → ℕ → ℕ → ℕ → ℕ → Drive
+holding d loaded partitions current position = drive loaded partitions current (d .attention) position (d .«block_length») (d .sense)
+
+-- the kept sense replaced whole
+unfoldable pub withSense : Drive → List ℕ → Drive
+withSense d s = drive (d .loaded) (d .partitions) (d .current) (d .attention) (d .position) (d .«block_length») s
+
 -- ---- what the services and LOAD UNLOAD set
 
 -- "Fresh: all 0, attention 29h, sense empty"
 unfoldable pub freshDrive : Drive
-freshDrive = record { loaded = 0; partitions = 0; current = 0; attention = powerOn; position = 0; «block_length» = 0; sense = emptySense }
+freshDrive = drive 0 0 0 powerOn 0 0 emptySense
 
 -- "Mount sets loaded, 1 or 2 partitions, partition 0, position 0, block length 0, attention 28h, empty sense."
 unfoldable pub mountedDrive : ℕ → Drive
-mountedDrive n = record { loaded = 1; partitions = n; current = 0; attention = mediumChanged; position = 0; «block_length» = mountedBlockLength; sense = emptySense }
+mountedDrive n = drive 1 n 0 mediumChanged 0 mountedBlockLength emptySense
 
 -- "LOAD: partition 0, position 0."
 unfoldable pub loadedAnew : Drive → Drive
-loadedAnew d = record { loaded = d .loaded; partitions = d .partitions; current = 0; attention = d .attention; position = 0; «block_length» = d .«block_length»; sense = d .sense }
+loadedAnew d = holding d (d .loaded) (d .partitions) 0 0
 
 -- "LOAD bit 0: unloaded, block length stays."
 unfoldable pub unloaded : Drive → Drive
-unloaded d = record { loaded = 0; partitions = 0; current = 0; attention = d .attention; position = 0; «block_length» = d .«block_length»; sense = d .sense }
-
--- the kept sense replaced whole
-unfoldable pub withSense : Drive → List ℕ → Drive
-withSense d s = record { loaded = d .loaded; partitions = d .partitions; current = d .current; attention = d .attention; position = d .position; «block_length» = d .«block_length»; sense = s }
+unloaded d = holding d 0 0 0 0

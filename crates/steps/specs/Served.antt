@@ -4,6 +4,7 @@ use mathlib.Core.Bool.{Bool, false, cond}
 use mathlib.Core.List.{List}
 use lib.Dec.{ltb}
 use Rattle.answers.specs.declared.Answer.{Answer}
+use Rattle.answers.specs.Answers.{answered}
 use Rattle.image.specs.Image.{protected}
 use Rattle.record.specs.declared.drive.Drive.{Drive}
 use Prim.Native.Nat.{ℕ}
@@ -16,7 +17,7 @@ outcomeOf r x = outcome (r .answer) (r .drive) x
 
 -- the answer of an act
 abbrev pub answerOf : Left → Answer
-answerOf l = record { refusal = 0; status = l .status; carried = l .carried }
+answerOf l = answered (l .status) (l .carried)
 
 -- whether the current partition is protected; not so where there is none
 unfoldable pub guardedNow : Drive → List ℕ → List ℕ → Bool

@@ -43,11 +43,7 @@ fn checks(d: Drive, sense: [u8; 18]) -> Served
 {
     Served {
         drive: record::with_sense(d, sense),
-        answer: Answer {
-            refusal: 0,
-            status: answers::CHECK_CONDITION,
-            carried: 0,
-        },
+        answer: answers::answered(answers::CHECK_CONDITION, 0),
     }
 }
 
@@ -58,11 +54,7 @@ fn answers_with(l: Left) -> Served
     let drive = l.drive;
     Served {
         drive: drive,
-        answer: Answer {
-            refusal: 0,
-            status: l.status,
-            carried: l.carried,
-        },
+        answer: answers::answered(l.status, l.carried),
     }
 }
 
