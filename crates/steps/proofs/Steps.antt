@@ -4,15 +4,13 @@ use Prim.Native.Nat.{ℕ, _≤_}
 use native.Mathlib.Omega.{arith}
 use mathlib.Core.Path.{_≡_, refl, sym, ap, _∙_}
 use mathlib.Core.Bool.{Bool, true, false, cond, _&&_}
-use mathlib.Core.Option.{none, some}
+use mathlib.Core.Option.{some}
 use mathlib.Core.List.{List}
 use borrow.Author.Tests.{ne-eqb}
-use lib.Dec.{eqb, leb}
+use lib.Dec.{eqb}
 use lib.ListN.{length}
-use Rattle.objects.specs.Object.{largestBlock}
 use Rattle.answers.specs.declared.Answer.{Answer}
 use Rattle.answers.specs.Answers.{refused}
-use Rattle.image.specs.Image.{count, sound}
 use Rattle.sense.specs.Sense.{senseBytes, plainly, attentionSense}
 use Rattle.record.specs.declared.drive.Drive.{Drive}
 use Rattle.record.specs.Record.{wellFormed, withSense}
@@ -22,7 +20,7 @@ use Rattle.codes.specs.Codes.{codeOf, tooShort, numberOf, operationOf}
 use Rattle.commands.specs.declared.deeds.Left.{Left}
 use Rattle.commands.specs.Stop as S
 use Rattle.commands.specs.Stop.{first}
-use Rattle.commands.specs.Kinds.{needsCartridge, locates, writes}
+use Rattle.commands.specs.Kinds.{needsCartridge, writes}
 use Rattle.commands.specs.Tests.{tests}
 use Rattle.commands.specs.Act.{Seen, unattended, targetOf}
 use Rattle.commands.specs.Step.{checkAnswer, stopped, acted}
@@ -34,9 +32,10 @@ use Rattle.stops.specs.Stops.{stopOf}
 use Rattle.stops.proofs.Long.{locate-long}
 use Rattle.commands.proofs.Classes.{named, unchanged}
 use Rattle.commands.proofs.Exact.{step-stops, step-acts}
-use Rattle.commands.proofs.Passed.{passed}
 use Rattle.steps.specs.declared.stepping.Served.{Served}
 use Rattle.steps.specs.Served.{outcomeOf, answerOf, guardedNow}
+use Rattle.steps.specs.Ready.{Free, Ready, ReadyApart}
+use Rattle.steps.proofs.Asked.{pass}
 use Rattle.steps.proofs.Acts.{Acts, Apart, no-writing}
 use Rattle.steps.proofs.Looked.{loaded, small-block, sound-looked, place-looked, seen-loaded, seen-unloaded, guarded-alike}
 
@@ -71,13 +70,16 @@ other-way : (t : Bool) (p q : List ℕ) → p ≡ q → p ≡ cond t q p
 other-way true p q e = e
 other-way false p q e = refl
 
-module _ (o : Operation) (d : Drive) (cmd p0 p1 sent b : List ℕ) (l : tooShort cmd ≡ false) (eo : o ≡ operationOf (codeOf cmd)) (w : wellFormed d ≡ true) (i : inserted d p0 p1 ≡ true)
-    (e : first (tests o d cmd (seen o d (lent cmd p0 p1 sent b)) sent (length b)) ≡ none) where
+module _ (o : Operation) (d : Drive) (cmd p0 p1 sent b : List ℕ) (w : wellFormed d ≡ true) (i : inserted d p0 p1 ≡ true) (f : Free o d cmd sent (length b) (seen o d (lent cmd p0 p1 sent b))) where
   needs-none : d .loaded ≡ 0 → needsCartridge o ≡ false
-  needs-none h = none-needed (needsCartridge o) (d .loaded) (passed o d cmd (seen o d (lent cmd p0 p1 sent b)) sent (length b) e .ready) h
+  needs-none h = none-needed (needsCartridge o) (d .loaded) (pass f .ready) h
 
-  pub asks-unloaded : d .loaded ≡ 0 → (tooShort cmd ≡ false) × (o ≡ operationOf (codeOf cmd)) × (needsCartridge o ≡ false) × (first (tests o d cmd (protectedOnly false) sent (length b)) ≡ none)
-  asks-unloaded h = (l, eo, needs-none h, rw (seen-unloaded o d (lent cmd p0 p1 sent b) w h) at e)
+  -- the same command, with what it sees said otherwise
+  seeing : (v : Seen) → seen o d (lent cmd p0 p1 sent b) ≡ v → Free o d cmd sent (length b) v
+  seeing v e = rw e at f
+
+  pub asks-unloaded : d .loaded ≡ 0 → ReadyApart o d cmd sent (length b) false
+  asks-unloaded h = record { free = seeing (protectedOnly false) (seen-unloaded o d (lent cmd p0 p1 sent b) w h); apart = needs-none h }
 
   module _ (x : Left) (r : Served) (ed : r .drive ≡ x .drive) (ea : r .answer ≡ answerOf x) (b′ : List ℕ) where
     pub acted-apart : d .loaded ≡ 0 → Apart o d cmd sent false b b′ x → outcomeOf r (lent cmd p0 p1 sent b′) ≡ applied (acted o d cmd sent (seen o d (lent cmd p0 p1 sent b))) (looksAt o d cmd) (lent cmd p0 p1 sent b)
@@ -91,7 +93,7 @@ module _ (o : Operation) (d : Drive) (cmd p0 p1 sent b : List ℕ) (l : tooShort
 
     module _ (z : d .loaded ≡ 0 → ⊥) (k : ℕ) (ek : k ≡ looksAt o d cmd) where
       seen-at : (s : List ℕ) → partition (looksAt o d cmd) p0 p1 ≡ s → seen o d (lent cmd p0 p1 sent b) ≡ seenOf s
-      seen-at s es = seen-loaded d p0 p1 (loaded d w z) i o cmd (passed o d cmd (seen o d (lent cmd p0 p1 sent b)) sent (length b) e .there) sent b ∙ ap seenOf es
+      seen-at s es = seen-loaded d p0 p1 (loaded d w z) i o cmd (pass f .there) sent b ∙ ap seenOf es
 
       pub acted-second : k ≡ 1 → (t : List ℕ) → Acts o d cmd sent (seenOf p1) p1 t b b′ x → outcomeOf r (lent cmd p0 t sent b′) ≡ applied (acted o d cmd sent (seen o d (lent cmd p0 p1 sent b))) (looksAt o d cmd) (lent cmd p0 p1 sent b)
       unfolding applied acted
@@ -106,19 +108,21 @@ module _ (o : Operation) (d : Drive) (cmd p0 p1 sent b : List ℕ) (l : tooShort
           (outcomes cmd sent (ea ∙ ap answerOf (y .0)) (ed ∙ ap (λ (z : Left). z .drive) (y .0)) (y .1) refl (y .2))
 
   module _ (z : d .loaded ≡ 0 → ⊥) (k : ℕ) (ek : k ≡ looksAt o d cmd) where
-    asks-at : (s : List ℕ) → partition (looksAt o d cmd) p0 p1 ≡ s
-        → (tooShort cmd ≡ false) × (o ≡ operationOf (codeOf cmd)) × (first (tests o d cmd (seenOf s) sent (length b)) ≡ none) × (sound s ≡ true) × (cond (locates o) true (leb (d .position) (count s)) ≡ true) × (d .«block_length» ≤ largestBlock)
+    asks-at : (s : List ℕ) → partition (looksAt o d cmd) p0 p1 ≡ s → Ready o d cmd sent (length b) s
     asks-at s es =
         let y = loaded d w z in
-        let n = passed o d cmd (seen o d (lent cmd p0 p1 sent b)) sent (length b) e .there in
-        (l, eo, rw (seen-loaded d p0 p1 y i o cmd n sent b, es) at e, rw es at (sound-looked d p0 p1 y i o cmd n), rw es at (place-looked d p0 p1 y i o cmd n), small-block d w)
+        let n = pass f .there in
+        record {
+          free = seeing (seenOf s) (seen-loaded d p0 p1 y i o cmd n sent b ∙ ap seenOf es);
+          whole = rw es at (sound-looked d p0 p1 y i o cmd n);
+          placed = rw es at (place-looked d p0 p1 y i o cmd n);
+          small = small-block d w;
+        }
 
-    pub asks-second : k ≡ 1
-        → (tooShort cmd ≡ false) × (o ≡ operationOf (codeOf cmd)) × (first (tests o d cmd (seenOf p1) sent (length b)) ≡ none) × (sound p1 ≡ true) × (cond (locates o) true (leb (d .position) (count p1)) ≡ true) × (d .«block_length» ≤ largestBlock)
+    pub asks-second : k ≡ 1 → Ready o d cmd sent (length b) p1
     asks-second h = asks-at p1 (rw (← ek, h) refl)
 
-    pub asks-first : (k ≡ 1 → ⊥)
-        → (tooShort cmd ≡ false) × (o ≡ operationOf (codeOf cmd)) × (first (tests o d cmd (seenOf p0) sent (length b)) ≡ none) × (sound p0 ≡ true) × (cond (locates o) true (leb (d .position) (count p0)) ≡ true) × (d .«block_length» ≤ largestBlock)
+    pub asks-first : (k ≡ 1 → ⊥) → Ready o d cmd sent (length b) p0
     asks-first h = asks-at p0 (rw (← ek, ne-eqb k 1 h) refl)
 
 -- ---- the end of a step
@@ -152,5 +156,5 @@ module _ (o : Operation) (d : Drive) (cmd p0 p1 sent b : List ℕ) (eo : o ≡ o
         → outcomeOf r (lent cmd p0′ p1′ sent b′) ≡ stepOf d (lent cmd p0 p1 sent b)
     acts-so e p0′ p1′ b′ q = q ∙ rw eo refl ∙ sym (step-acts d (lent cmd p0 p1 sent b) (named-so ∙ ap stopOf e))
 
-  pub none-stops : x ≡ Pass → first (tests o d cmd (seen o d (lent cmd p0 p1 sent b)) sent (length b)) ≡ none
-  none-stops e = stop-is ∙ ap stopOf e
+  pub passes-free : tooShort cmd ≡ false → x ≡ Pass → Free o d cmd sent (length b) (seen o d (lent cmd p0 p1 sent b))
+  passes-free l e = record { long = l; coded = eo; unstopped = stop-is ∙ ap stopOf e }

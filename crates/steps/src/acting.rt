@@ -1,23 +1,15 @@
 // The act of each command, once every test has passed.
 ghost use mathlib.Core.Path.{_≡_};
-ghost use mathlib.Core.Bool.{true, false, cond};
-ghost use mathlib.Core.List.{[], _∷_};
-ghost use mathlib.Core.Option.{none};
+ghost use mathlib.Core.List.{[]};
 ghost use Prim.Native.Nat.{_≤_};
-ghost use lib.Dec.{leb};
 ghost use lib.ListN.{length};
 ghost use Rattle.words.specs.Words.{over};
-ghost use Rattle.objects.specs.Object.{largestBlock};
-ghost use Rattle.image.specs.Image.{count, sound};
 ghost use Rattle.codes.specs.declared.operation.Operation.the-variants.{LoadUnload};
-ghost use Rattle.codes.specs.Codes.{codeOf, tooShort, operationOf};
-ghost use Rattle.commands.specs.Stop.{first};
-ghost use Rattle.commands.specs.Kinds.{locates, needsCartridge};
-ghost use Rattle.commands.specs.Tests.{tests};
 ghost use Rattle.commands.specs.Act.{act};
 ghost use Rattle.commands.specs.Step.{acted};
 ghost use Rattle.commands.specs.Call.{seenOf, laidOut, nothing};
 ghost use Rattle.commands.specs.Left.{leftBy, protectedOnly};
+ghost use Rattle.steps.specs.Ready.{Ready, ReadyApart};
 use crate::partitions::is_protected;
 use codes::Operation;
 use commands::Left;
@@ -32,20 +24,17 @@ pub fn act_apart(
     sent: &[u8],
     received: &mut [u8],
 ) -> Left
-    requires { ⌜ (tooShort (now cmd) ≡ false) × (o ≡ operationOf (codeOf (now cmd))) × (needsCartridge o ≡ false) × (first (tests o d (now cmd) (protectedOnly guarded) (now sent) (length (now received))) ≡ none) ⌝ }
+    requires { ⌜ ReadyApart o d (now cmd) (now sent) (length (now received)) guarded ⌝ }
     ensures { λ r. ⌜ (r ≡ leftBy (act o d (now (cmd .entry)) (now (sent .entry)) (protectedOnly guarded))) × (now (received .exit) ≡ over (now (received .entry)) 0 (act o d (now (cmd .entry)) (now (sent .entry)) (protectedOnly guarded) .received)) ⌝ }
 {
-    let n = codes::number_of(o);
-    if n == codes::REQUEST_SENSE {
-        return commands::request_sense(d, cmd, received);
+    match o {
+        Operation::RequestSense => commands::request_sense(d, cmd, received),
+        Operation::ReadBlockLimits => commands::read_block_limits(d, received),
+        Operation::ModeSelect => commands::select(d, cmd, sent),
+        Operation::ModeSense => commands::mode_sense(d, cmd, guarded, received),
+        // All others need a cartridge.
+        _ => commands::good(d, 0),
     }
-    if n == codes::READ_BLOCK_LIMITS {
-        return commands::read_block_limits(d, received);
-    }
-    if n == codes::MODE_SELECT {
-        return commands::select(d, cmd, sent);
-    }
-    commands::mode_sense(d, cmd, guarded, received)
 }
 
 // LOAD UNLOAD.
@@ -59,7 +48,7 @@ fn load_unload(d: Drive, cmd: &[u8]) -> Left
     commands::good(record::unload(d), 0)
 }
 
-// Any command, on the partition that it looks at: sound, with the position at most at its end, LOCATE's target excepted.
+// Any command, on the partition that it looks at.
 pub fn act_on(
     o: Operation,
     d: Drive,
@@ -68,39 +57,24 @@ pub fn act_on(
     sent: &[u8],
     received: &mut [u8],
 ) -> Left
-    requires { ⌜ (tooShort (now cmd) ≡ false) × (o ≡ operationOf (codeOf (now cmd))) × (first (tests o d (now cmd) (seenOf (now s)) (now sent) (length (now received))) ≡ none) × (sound (now s) ≡ true) × (cond (locates o) true (leb (d .position) (count (now s))) ≡ true) × (d .«block_length» ≤ largestBlock) ⌝ }
+    requires { ⌜ Ready o d (now cmd) (now sent) (length (now received)) (now s) ⌝ }
     ensures { λ r. ⌜ (r ≡ leftBy (act o d (now (cmd .entry)) (now (sent .entry)) (seenOf (now (s .entry))))) × (now (s .exit) ≡ laidOut (acted o d (now (cmd .entry)) (now (sent .entry)) (seenOf (now (s .entry)))) (now (s .entry))) × (now (received .exit) ≡ over (now (received .entry)) 0 (act o d (now (cmd .entry)) (now (sent .entry)) (seenOf (now (s .entry))) .received)) ⌝ }
 {
-    let n = codes::number_of(o);
-    if n == codes::READ {
-        return reading::read(s, d, cmd, received);
+    match o {
+        Operation::Read => reading::read(s, d, cmd, received),
+        Operation::Write => writing::write(s, d, cmd, sent),
+        Operation::WriteFilemarks => writing::write_filemarks(s, d, cmd),
+        Operation::Space => moving::space(s, d, cmd),
+        Operation::Locate => commands::locate(s, d, cmd),
+        Operation::ReadPosition => reading::read_position(s, d, cmd, received),
+        Operation::Erase => writing::erase(s, d, cmd),
+        Operation::LoadUnload => load_unload(d, cmd),
+        Operation::Rewind => commands::good(commands::at(d, 0), 0),
+        Operation::TestUnitReady => commands::good(d, 0),
+        Operation::NotServed => commands::good(d, 0),
+        Operation::RequestSense
+        | Operation::ReadBlockLimits
+        | Operation::ModeSelect
+        | Operation::ModeSense => act_apart(o, d, cmd, is_protected(s), sent, received),
     }
-    if n == codes::WRITE {
-        return writing::write(s, d, cmd, sent);
-    }
-    if n == codes::WRITE_FILEMARKS {
-        return writing::write_filemarks(s, d, cmd);
-    }
-    if n == codes::SPACE {
-        return moving::space(s, d, cmd);
-    }
-    if n == codes::LOCATE {
-        return commands::locate(s, d, cmd);
-    }
-    if n == codes::READ_POSITION {
-        return reading::read_position(s, d, cmd, received);
-    }
-    if n == codes::ERASE {
-        return writing::erase(s, d, cmd);
-    }
-    if n == codes::LOAD_UNLOAD {
-        return load_unload(d, cmd);
-    }
-    if n == codes::REWIND {
-        return commands::good(commands::at(d, 0), 0);
-    }
-    if !commands::needs_cartridge(o) {
-        return act_apart(o, d, cmd, is_protected(s), sent, received);
-    }
-    commands::good(d, 0)
 }

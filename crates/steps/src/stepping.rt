@@ -1,15 +1,13 @@
 // A command on a drive that number 4 finds no fault with: the first test that holds ends it, else it acts.
 ghost use mathlib.Core.Path.{_≡_};
 ghost use mathlib.Core.Bool.{true, false};
-ghost use mathlib.Core.Option.{none};
 ghost use Rattle.answers.specs.Answers.{refused};
 ghost use Rattle.record.specs.Record.{wellFormed, withSense};
 ghost use Rattle.codes.specs.Codes.{codeOf, tooShort, operationOf};
-ghost use Rattle.commands.specs.Stop.{first};
-ghost use Rattle.commands.specs.Tests.{tests};
 ghost use lib.ListN.{length};
 ghost use Rattle.commands.specs.Step.{checkAnswer, acted};
 ghost use Rattle.commands.specs.Call.{lent, inserted, seen, looksAt, applied, stepOf, driveCall};
+ghost use Rattle.steps.specs.Ready.{Free};
 ghost use Rattle.steps.specs.Served.{outcomeOf, guardedNow, answerOf};
 use crate::acting::act_apart;
 use crate::acting::act_on;
@@ -93,7 +91,7 @@ fn acts(
     sent: &[u8],
     received: &mut [u8],
 ) -> Served
-    requires { ⌜ (tooShort (now cmd) ≡ false) × (o ≡ operationOf (codeOf (now cmd))) × (wellFormed d ≡ true) × (inserted d (now p0) (now p1) ≡ true) × (first (tests o d (now cmd) (seen o d (lent (now cmd) (now p0) (now p1) (now sent) (now received))) (now sent) (length (now received))) ≡ none) ⌝ }
+    requires { ⌜ (wellFormed d ≡ true) × (inserted d (now p0) (now p1) ≡ true) × Free o d (now cmd) (now sent) (length (now received)) (seen o d (lent (now cmd) (now p0) (now p1) (now sent) (now received))) ⌝ }
     ensures { λ r. ⌜ outcomeOf r (lent (now (cmd .entry)) (now (p0 .exit)) (now (p1 .exit)) (now (sent .entry)) (now (received .exit))) ≡ applied (acted o d (now (cmd .entry)) (now (sent .entry)) (seen o d (lent (now (cmd .entry)) (now (p0 .entry)) (now (p1 .entry)) (now (sent .entry)) (now (received .entry))))) (looksAt o d (now (cmd .entry))) (lent (now (cmd .entry)) (now (p0 .entry)) (now (p1 .entry)) (now (sent .entry)) (now (received .entry))) ⌝ }
 {
     if d.loaded == 0 {

@@ -2,7 +2,7 @@
 -- Assumes nothing.
 use borrow.Author.Needs.{needs}
 use Rattle.codes.proofs.Rules.{long-enough}
-use Rattle.steps.proofs.Steps.{refuses-so, attends-so, faults-so, acts-so, none-stops}
+use Rattle.steps.proofs.Steps.{refuses-so, attends-so, faults-so, acts-so, passes-free}
 use Rattle.steps.proofs.stepping.step.Statement.{statement}
 use Rattle.steps.proofs.stepping.step.Tie as tie
 
@@ -51,7 +51,7 @@ enum-told-2 c = search needs
 acts-requires : tie.Need-acts-requires
 acts-requires c κs =
     let p = c .before .before .before .before .before .before .before .before .before .before .before .before .before .before .before .before .before .pre in
-    (p .0, c .before .before .before .before .before .before .before .before .before .before .operation-of .ensures, p .1, p .2, none-stops _ _ _ _ _ _ _ (c .before .before .before .before .before .before .before .before .before .before .operation-of .ensures) _ (c .before .before .before .before .before .before .before .is-guarded .ensures) _ (c .before .before .before .before .before .stop-of .ensures) (c .before .before .before .enum-told2 .given .1))
+    (p .1, p .2, passes-free _ _ _ _ _ _ _ (c .before .before .before .before .before .before .before .before .before .before .operation-of .ensures) _ (c .before .before .before .before .before .before .before .is-guarded .ensures) _ (c .before .before .before .before .before .stop-of .ensures) (p .0) (c .before .before .before .enum-told2 .given .1))
 
 same-length : tie.Need-same-length
 same-length c = search needs
