@@ -1,13 +1,13 @@
 -- "always so": a record and the cartridge that it was mounted with, used with each other alone, are never refused with 4.
 -- Assumes nothing.
-use Prim.Native.Nat.{ℕ, suc, _+_, _≤_, _<_, zero-le}
+use Prim.Native.Nat.{ℕ, suc, _+_, _≤_, zero-le}
 use native.Mathlib.Omega.{arith}
 use mathlib.Core.Path.{_≡_, refl, sym, ap, _∙_, subst}
 use mathlib.Core.Bool.{Bool, true, false, cond, not, _&&_, _||_}
 use mathlib.Core.Option.{none, some}
 use mathlib.Core.List.{List, [], _∷_}
-use borrow.Author.Tests.{not-true, eqb-true, eqb-false, leb-false}
-use lib.Dec.{eqb, leb}
+use borrow.Author.Tests.{not-true, eqb-true, eqb-false}
+use lib.Dec.{eqb}
 use lib.ListN.{length, take, length-take}
 use Rattle.answers.specs.declared.Answer.{Answer}
 use Rattle.answers.specs.Answers.{recordFault, alreadyLoaded, unsoundImage, wrongLength, refused, done, left}
@@ -22,10 +22,9 @@ use Rattle.record.specs.Record.{attentionKnown, decodeOf, encodeOf, wellRecord,
 use Rattle.codes.specs.declared.operation.Operation.{Operation}
 use Rattle.codes.specs.declared.operation.Operation.the-variants.{TestUnitReady, Rewind, RequestSense, ReadBlockLimits, Read, Write, WriteFilemarks, Space, ModeSelect, Erase, ModeSense, LoadUnload, Locate, ReadPosition, NotServed}
 use Rattle.codes.specs.Codes.{codeOf, operationOf}
-use Rattle.codes.specs.Fields.{changesPartition, partitionOf}
 use Rattle.cartridge.specs.Mount.{absent, partitionsOf, rightLengths, bothSound, mountFault, mountCall}
 use Rattle.commands.specs.Stop.{refuse, first}
-use Rattle.commands.specs.Kinds.{erases, locates, needsCartridge, writes}
+use Rattle.commands.specs.Kinds.{erases, needsCartridge, writes}
 use Rattle.commands.specs.Act.{Seen, at, targetOf, locating, goesDown, act, eventsOf}
 use Rattle.commands.specs.Tests.{tests}
 use Rattle.commands.specs.Step.{acted, keptOf}
@@ -38,7 +37,7 @@ use Rattle.commands.proofs.Laid.{Turned}
 use Rattle.history.specs.History.{Slot, slot0, slot1, Cartridge, cartridge, protection, slicesLeft, after, ends}
 use Rattle.history.specs.Demand3.{NoFault}
 use Rattle.history.specs.Always.{Use, sends, mounts, protects, callsOf, recordUsed, AlwaysSo}
-use Rattle.commands.proofs.Faultless.{Cart, no-cart, one-part, two-parts, Well, well-test, fault-free, no-fault, empty-whole, inside, seen-there, kept-whole}
+use Rattle.commands.proofs.Faultless.{Cart, no-cart, one-part, two-parts, Well, well-test, fault-free, no-fault, empty-whole, inside, looks-in, seen-there, kept-whole}
 use Rattle.history.proofs.Ended.{Ended, by-number, by-sense, by-act, ended, calm-well}
 use Rattle.history.proofs.Acted.{writing-drive, marking-drive, idle, stepped, sees, place, turned, shaped, put-place}
 use Rattle.history.proofs.Told.{protect-turned}
@@ -101,20 +100,12 @@ module _ (rec : List ℕ) (x : Lent) (w : Well (decodeOf rec) (x .part0) (x .par
         let e : length ((seen o (decodeOf rec) x) .objects) ≡ count (partition (decodeOf rec .current) (x .part0) (x .part1)) = rw (sees rec x w o q l z) (unfold seenOf in length-objects (partition (decodeOf rec .current) (x .part0) (x .part1))) in
         from-moves (decodeOf rec) (x .part0) (x .part1) (length ((seen o (decodeOf rec) x) .objects)) _ w z (m (seen o (decodeOf rec) x) (place rec x w o q l z)) e
 
-  target-in : (d : Drive) → locates Locate && changesPartition (x .cmd) && leb (d .partitions) (partitionOf (x .cmd)) ≡ false → d .current < d .partitions → targetOf d (x .cmd) < d .partitions
-  unfolding targetOf
-  target-in d e h = go (changesPartition (x .cmd)) e
-    where
-      go : (t : Bool) → t && leb (d .partitions) (partitionOf (x .cmd)) ≡ false → cond t (partitionOf (x .cmd)) (d .current) < d .partitions
-      go true q = leb-false (d .partitions) (partitionOf (x .cmd)) q
-      go false q = h
-
   locate-after : Passes Locate → Well (Drives Locate) (x .part0) (x .part1)
   unfolding act locating seenOf looksAt
   locate-after q =
       let k = passed Locate (decodeOf rec) (x .cmd) (seen Locate (decodeOf rec) x) (x .sent) (length (x .received)) q in
       let z = is-loaded Locate refl q in
-      let t = target-in (decodeOf rec) (k .there) (current-in (decodeOf rec) (x .part0) (x .part1) (w .cart) z) in
+      let t = looks-in Locate (decodeOf rec) (x .cmd) (current-in (decodeOf rec) (x .part0) (x .part1) (w .cart) z) (k .there) in
       let p : List ℕ = partition (targetOf (decodeOf rec) (x .cmd)) (x .part0) (x .part1) in
       rw (seen-there Locate (decodeOf rec) x t) (located-well (decodeOf rec) (x .part0) (x .part1) (x .cmd) (seenOf p) w z t (length-objects p))
 

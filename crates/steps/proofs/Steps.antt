@@ -37,7 +37,8 @@ use Rattle.steps.specs.Served.{outcomeOf, answerOf, guardedNow}
 use Rattle.steps.specs.Ready.{Free, Ready, ReadyApart}
 use Rattle.steps.proofs.Asked.{pass}
 use Rattle.steps.proofs.Acts.{Acts, Apart, no-writing}
-use Rattle.steps.proofs.Looked.{loaded, small-block, sound-looked, place-looked, seen-loaded, seen-unloaded, guarded-alike}
+use Rattle.commands.proofs.Faultless.{small-block}
+use Rattle.steps.proofs.Looked.{sound-looked, place-looked, seen-loaded, seen-unloaded, guarded-alike}
 
 -- ---- the partition looked at
 
@@ -93,7 +94,7 @@ module _ (o : Operation) (d : Drive) (cmd p0 p1 sent b : List ℕ) (w : wellForm
 
     module _ (z : d .loaded ≡ 0 → ⊥) (k : ℕ) (ek : k ≡ looksAt o d cmd) where
       seen-at : (s : List ℕ) → partition (looksAt o d cmd) p0 p1 ≡ s → seen o d (lent cmd p0 p1 sent b) ≡ seenOf s
-      seen-at s es = seen-loaded d p0 p1 (loaded d w z) i o cmd (pass f .there) sent b ∙ ap seenOf es
+      seen-at s es = seen-loaded d p0 p1 w i z o cmd (pass f .there) sent b ∙ ap seenOf es
 
       pub acted-second : k ≡ 1 → (t : List ℕ) → Acts o d cmd sent (seenOf p1) p1 t b b′ x → outcomeOf r (lent cmd p0 t sent b′) ≡ applied (acted o d cmd sent (seen o d (lent cmd p0 p1 sent b))) (looksAt o d cmd) (lent cmd p0 p1 sent b)
       unfolding applied acted
@@ -110,12 +111,11 @@ module _ (o : Operation) (d : Drive) (cmd p0 p1 sent b : List ℕ) (w : wellForm
   module _ (z : d .loaded ≡ 0 → ⊥) (k : ℕ) (ek : k ≡ looksAt o d cmd) where
     asks-at : (s : List ℕ) → partition (looksAt o d cmd) p0 p1 ≡ s → Ready o d cmd sent (length b) s
     asks-at s es =
-        let y = loaded d w z in
         let n = pass f .there in
         record {
-          free = seeing (seenOf s) (seen-loaded d p0 p1 y i o cmd n sent b ∙ ap seenOf es);
-          whole = rw es at (sound-looked d p0 p1 y i o cmd n);
-          placed = rw es at (place-looked d p0 p1 y i o cmd n);
+          free = seeing (seenOf s) (seen-loaded d p0 p1 w i z o cmd n sent b ∙ ap seenOf es);
+          whole = rw es at (sound-looked d p0 p1 w i z o cmd n);
+          placed = rw es at (place-looked d p0 p1 w i z o cmd n);
           small = small-block d w;
         }
 

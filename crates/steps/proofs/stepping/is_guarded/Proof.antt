@@ -1,6 +1,6 @@
 -- Not loaded; or the current partition's flag, which is lent and sound.
 -- Assumes nothing.
-use Rattle.steps.proofs.Looked.{loaded, guards-none, guards-second, guards-first, trailed}
+use Rattle.steps.proofs.Looked.{guards-none, guards-second, guards-first, trailed}
 use Rattle.steps.proofs.stepping.is_guarded.Statement.{statement}
 use Rattle.steps.proofs.stepping.is_guarded.Tie as tie
 
@@ -10,7 +10,7 @@ returns c = guards-none _ _ _ (c .before .before .before .before .pre .0) (c .if
 is-protected-requires : tie.Need-is-protected-requires
 is-protected-requires c κs =
     let p = c .before .before .before .before .before .before .pre in
-    trailed _ _ _ (loaded _ (p .0) (c .before .before .if1 .left)) (p .1) .0 (c .if2 .taken)
+    trailed _ _ _ (p .0) (p .1) (c .before .before .if1 .left) .0 (c .if2 .taken)
 
 returns-2 : tie.Need-returns-2
 returns-2 c =
@@ -20,7 +20,7 @@ returns-2 c =
 is-protected-requires-2 : tie.Need-is-protected-requires-2
 is-protected-requires-2 c κs =
     let p = c .before .before .before .before .before .before .pre in
-    trailed _ _ _ (loaded _ (p .0) (c .before .before .if1 .left)) (p .1) .1 (c .if2 .left)
+    trailed _ _ _ (p .0) (p .1) (c .before .before .if1 .left) .1 (c .if2 .left)
 
 returns-3 : tie.Need-returns-3
 returns-3 c =
