@@ -1,21 +1,21 @@
--- The three operations that write a partition, and all others: these offer nothing, cause no event, and leave every partition as it was. One
--- classification, for every proof that goes through the operations.
+-- The three operations that write a partition, and all others: these offer nothing, cause no event, and leave every partition as it was; and the four that need no
+-- cartridge. Two classifications, for every proof that goes through the operations.
 -- Assumes nothing.
 use Prim.Native.Nat.{ℕ}
 use native.Mathlib.Omega.{arith}
 use mathlib.Core.Path.{_≡_, refl, sym, ap, _∙_}
-use mathlib.Core.Bool.{Bool, true, false, cond}
+use mathlib.Core.Bool.{Bool, true, false, cond, not}
 use mathlib.Core.List.{List, []}
 use borrow.Author.Tests.{eqb-true}
 use lib.Dec.{eqb}
 use Rattle.image.specs.Changes.{occurs}
 use Rattle.record.specs.declared.drive.Drive.{Drive}
 use Rattle.codes.specs.declared.operation.Operation.{Operation}
-use Rattle.codes.specs.declared.operation.Operation.the-variants.{Write, WriteFilemarks, Erase}
+use Rattle.codes.specs.declared.operation.Operation.the-variants.{RequestSense, ReadBlockLimits, Write, WriteFilemarks, ModeSelect, Erase, ModeSense}
 use Rattle.codes.specs.Codes.{numberOf, operationOf}
 use Rattle.codes.proofs.Rules.{operation-number}
 use Rattle.transfer.specs.Transfer.{fitting, putFrom}
-use Rattle.commands.specs.Kinds.{erases, locates, writes}
+use Rattle.commands.specs.Kinds.{needsCartridge, erases, locates, writes}
 use Rattle.commands.specs.Act.{Seen, offered, goesDown, eventsOf}
 use Rattle.commands.specs.Step.{acted}
 use Rattle.commands.specs.Call.{laidOut}
@@ -79,3 +79,25 @@ not-locate o h = go (classify o) h
     go (filemarks e) h = rw e refl
     go (erasing e) h = rw e refl
     go (quiet q) h = absurd (let x : true ≡ false = sym h ∙ q in let z : _≡_ {A = ℕ} 0 1 = cc in omega arith)
+
+-- ---- the four that need no cartridge
+
+pub data NoCartridge (o : Operation) : Type 0 where
+  asks-sense : o ≡ RequestSense → NoCartridge o
+  asks-limits : o ≡ ReadBlockLimits → NoCartridge o
+  selects : o ≡ ModeSelect → NoCartridge o
+  asks-mode : o ≡ ModeSense → NoCartridge o
+
+pub which-apart : (o : Operation) → needsCartridge o ≡ false → NoCartridge o
+which-apart o h = go (eqb (numberOf o) (numberOf RequestSense)) (eqb (numberOf o) (numberOf ReadBlockLimits)) (eqb (numberOf o) (numberOf ModeSelect)) (eqb (numberOf o) (numberOf ModeSense)) refl refl refl refl h
+  where
+    is : (x : Operation) → eqb (numberOf o) (numberOf x) ≡ true → o ≡ x
+    is x e = named o x (numberOf o) refl (eqb-true (numberOf o) (numberOf x) e)
+
+    go : (a b c d : Bool) → eqb (numberOf o) (numberOf RequestSense) ≡ a → eqb (numberOf o) (numberOf ReadBlockLimits) ≡ b → eqb (numberOf o) (numberOf ModeSelect) ≡ c → eqb (numberOf o) (numberOf ModeSense) ≡ d
+        → not (cond a true (cond b true (cond c true (cond d true false)))) ≡ false → NoCartridge o
+    go true b c d ea eb ec ed h = asks-sense (is RequestSense ea)
+    go false true c d ea eb ec ed h = asks-limits (is ReadBlockLimits eb)
+    go false false true d ea eb ec ed h = selects (is ModeSelect ec)
+    go false false false true ea eb ec ed h = asks-mode (is ModeSense ed)
+    go false false false false ea eb ec ed h = absurd (let z : _≡_ {A = ℕ} 0 1 = cc in omega arith)

@@ -15,7 +15,7 @@ use Rattle.image.specs.Image.{protected}
 use Rattle.record.specs.declared.drive.Drive.{Drive}
 use Rattle.record.specs.Record.{loadedAnew, unloaded}
 use Rattle.codes.specs.declared.operation.Operation.{Operation}
-use Rattle.codes.specs.declared.operation.Operation.the-variants.{TestUnitReady, Rewind, RequestSense, ReadBlockLimits, Read, Write, WriteFilemarks, Space, ModeSelect, Erase, ModeSense, LoadUnload, Locate, ReadPosition, NotServed}
+use Rattle.codes.specs.declared.operation.Operation.the-variants.{Write, WriteFilemarks, LoadUnload}
 use Rattle.codes.specs.Fields.{loadOf, allocationOf, transferOf, fixedOf}
 use Rattle.mode.specs.Mode.{listRight}
 use Rattle.commands.specs.declared.deeds.Left.{Left}
@@ -24,7 +24,7 @@ use Rattle.commands.specs.Act.{Seen, Deed, good, carrying, writing, marking, sp
 use Rattle.commands.specs.Step.{acted}
 use Rattle.commands.specs.Call.{seenOf, nothing, laidOut}
 use Rattle.commands.specs.Left.{leftBy, protectedOnly}
-use Rattle.commands.proofs.Classes.{Class, blocks, filemarks, erasing, quiet, classify, unchanged}
+use Rattle.commands.proofs.Classes.{Class, blocks, filemarks, erasing, quiet, classify, unchanged, NoCartridge, asks-sense, asks-limits, selects, asks-mode, which-apart}
 
 -- ---- commands that lay nothing over the receiving buffer
 
@@ -97,21 +97,13 @@ module _ (d : Drive) (cmd : List ℕ) (f : Bool) (ef : f ≡ loadOf cmd) (x : Dr
 
 sees-guard : (o : Operation) (d : Drive) (cmd sent : List ℕ) (v : Seen) → needsCartridge o ≡ false → act o d cmd sent (protectedOnly (v .guarded)) ≡ act o d cmd sent v
 unfolding act replyOf
-sees-guard RequestSense d cmd sent v h = refl
-sees-guard ReadBlockLimits d cmd sent v h = refl
-sees-guard ModeSelect d cmd sent v h = refl
-sees-guard ModeSense d cmd sent v h = refl
-sees-guard TestUnitReady d cmd sent v h = refl
-sees-guard Rewind d cmd sent v h = refl
-sees-guard LoadUnload d cmd sent v h = refl
-sees-guard Erase d cmd sent v h = refl
-sees-guard NotServed d cmd sent v h = refl
-sees-guard Read d cmd sent v h = cc
-sees-guard Write d cmd sent v h = cc
-sees-guard WriteFilemarks d cmd sent v h = cc
-sees-guard Space d cmd sent v h = cc
-sees-guard Locate d cmd sent v h = cc
-sees-guard ReadPosition d cmd sent v h = cc
+sees-guard o d cmd sent v h = go (which-apart o h)
+  where
+    go : NoCartridge o → act o d cmd sent (protectedOnly (v .guarded)) ≡ act o d cmd sent v
+    go (asks-sense e) = rw e refl
+    go (asks-limits e) = rw e refl
+    go (selects e) = rw e refl
+    go (asks-mode e) = rw e refl
 
 -- and write no partition
 pub no-writing : (o : Operation) → needsCartridge o ≡ false → writes o ≡ false

@@ -1,14 +1,16 @@
 -- The operation code of a served command is its number, so a command block that is not too short has the length of its command.
 -- Assumes nothing.
-use mathlib.Core.Path.{_≡_, sym, ap, _∙_, subst}
-use mathlib.Core.Bool.{true, false}
-use mathlib.Core.List.{List}
+use mathlib.Core.Path.{_≡_, refl, sym, ap, _∙_, subst}
+use mathlib.Core.Bool.{Bool, true, false, cond}
+use mathlib.Core.List.{List, [], _∷_}
 use Prim.Native.Nat.{ℕ, _≤_}
 use native.Mathlib.Omega.{arith}
+use borrow.Author.Tests.{leb-true}
+use lib.Dec.{eqb, leb}
 use lib.ListN.{length}
 use Rattle.codes.specs.declared.operation.Operation.{Operation}
-use Rattle.codes.specs.declared.operation.Operation.the-variants.{TestUnitReady, Rewind, RequestSense, ReadBlockLimits, Read, Write, WriteFilemarks, Space, ModeSelect, Erase, ModeSense, LoadUnload, Locate, ReadPosition, NotServed}
-use Rattle.codes.specs.Codes.{lengthOf, codeOf, tooShort, numberOf, Row, rows, rowOf, operationOf}
+use Rattle.codes.specs.declared.operation.Operation.the-variants.{Locate}
+use Rattle.codes.specs.Codes.{lengthOf, codeOf, tooShort, numberOf, Row, rows, find, rowOf, operationOf}
 use Rattle.codes.proofs.Rules.{long-enough, Found, here, nowhere, found}
 use Rattle.commands.specs.Kinds.{isServed}
 
@@ -23,29 +25,37 @@ code-number op s = by (rowOf op) (found rows op) s
 
 -- ---- so its length is known
 
--- a served command has six bytes at least
-six : (o : Operation) → isServed o ≡ true → 6 ≤ lengthOf (numberOf o)
-six TestUnitReady s = omega arith
-six Rewind s = omega arith
-six RequestSense s = omega arith
-six ReadBlockLimits s = omega arith
-six Read s = omega arith
-six Write s = omega arith
-six WriteFilemarks s = omega arith
-six Space s = omega arith
-six ModeSelect s = omega arith
-six Erase s = omega arith
-six ModeSense s = omega arith
-six LoadUnload s = omega arith
-six Locate s = omega arith
-six ReadPosition s = omega arith
-six NotServed s = absurd (let z : _≡_ {A = ℕ} 0 1 = cc in omega arith)
+-- a served command has six bytes at least: computed over the rows
+hasSix : Row → Bool
+hasSix r = leb 6 (lengthOf (numberOf (r .operation)))
+
+allSix : List Row → Bool
+allSix [] = true
+allSix (r ∷ rs) = cond (hasSix r) (allSix rs) false
+
+each-six : allSix rows ≡ true
+unfolding allSix hasSix
+each-six = refl
+
+found-six : (rs : List Row) (op : ℕ) → allSix rs ≡ true → isServed (find rs op .operation) ≡ true → hasSix (find rs op) ≡ true
+unfolding allSix
+found-six [] op h s = absurd (let z : _≡_ {A = ℕ} 0 1 = cc in omega arith)
+found-six (r ∷ rs) op h s = go (eqb (numberOf (r .operation)) op) (hasSix r) refl h s (found-six rs op)
+  where
+    go : (t b : Bool) → hasSix r ≡ b → cond b (allSix rs) false ≡ true → isServed ((cond t r (find rs op)) .operation) ≡ true → (allSix rs ≡ true → isServed (find rs op .operation) ≡ true → hasSix (find rs op) ≡ true) → hasSix (cond t r (find rs op)) ≡ true
+    go t false e h s f = absurd (let z : _≡_ {A = ℕ} 0 1 = cc in omega arith)
+    go true true e h s f = e
+    go false true e h s f = f h s
+
+six : (op : ℕ) → isServed (operationOf op) ≡ true → 6 ≤ lengthOf (numberOf (operationOf op))
+unfolding hasSix
+six op s = leb-true 6 (lengthOf (numberOf (operationOf op))) (found-six rows op each-six s)
 
 long : (cmd : List ℕ) → tooShort cmd ≡ false → isServed (operationOf (codeOf cmd)) ≡ true → lengthOf (numberOf (operationOf (codeOf cmd))) ≤ length cmd
 long cmd h s = subst (λ (n : ℕ). lengthOf n ≤ length cmd) (sym (code-number (codeOf cmd) s)) (long-enough cmd h .1)
 
 pub served-long : (cmd : List ℕ) → tooShort cmd ≡ false → isServed (operationOf (codeOf cmd)) ≡ true → 6 ≤ length cmd
-served-long cmd h s = omega (arith, six (operationOf (codeOf cmd)) s, long cmd h s)
+served-long cmd h s = omega (arith, six (codeOf cmd) s, long cmd h s)
 
 pub locate-long : (cmd : List ℕ) → tooShort cmd ≡ false → operationOf (codeOf cmd) ≡ Locate → 10 ≤ length cmd
 locate-long cmd h e =
