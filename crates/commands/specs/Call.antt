@@ -121,7 +121,7 @@ written rec o = result (o .answer) (cond (eqb (o .answer .refusal) 0) (encodeOf 
 unfoldable pub commandCall : List ℕ → Lent → Result
 commandCall rec x = written rec (called (wellRecord rec) (decodeOf rec) x)
 
--- ---- "Command order: 1; 4; ..": all its tests as one list; the first that holds is what the call does (law `by-order`)
+-- ---- "Command order: 1; 4; ..": all its tests as one list; the first that holds is what the call does (laws `call-stops`, `call-acts`)
 
 unfoldable pub commandTests : List ℕ → Lent → List (Bool × Stop)
 commandTests rec x =
