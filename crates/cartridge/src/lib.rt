@@ -45,7 +45,7 @@ pub fn mount_fault(rec: &[u8], p0: &[u8], p1: &[u8]) -> u8
     if !record::is_record(rec) {
         return answers::RECORD_FAULT;
     }
-    if rec[0] == 1 {
+    if rec[record::LOADED] == 1 {
         return answers::ALREADY_LOADED;
     }
     if !have_right_lengths(p0, p1) {

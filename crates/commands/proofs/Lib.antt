@@ -1,10 +1,3 @@
 pub mod Among
-pub mod Exact
-pub mod Passed
-pub mod Classes
-pub mod Goes
-pub mod Laid
-pub mod Faultless
 pub mod Leaving
-pub mod Replying
 pub mod Wrong

@@ -3,11 +3,12 @@
 use mathlib.Core.Path.{_≡_, refl}
 use mathlib.Core.Bool.{Bool, true, false, not}
 use mathlib.Core.List.{List}
-use Prim.Native.Nat.{ℕ, _*_, _^_, _≤_, _<_}
+use Prim.Native.Nat.{ℕ, zero, suc, _*_, _^_, _≤_, _<_}
 use native.Mathlib.Nat.{mul-le-mul-right}
 use native.Mathlib.Omega.{arith}
-use borrow.Author.Tests.{eq-eqb, ne-eqb, not-true, not-false}
+use borrow.Author.Tests.{eq-eqb, ne-eqb, eqb-false, ltb-false, not-true, not-false}
 use lib.Dec.{eqb, ltb}
+use lib.ListN.{length}
 use Rattle.objects.specs.Object.{largestBlock}
 use Rattle.record.specs.declared.drive.Drive.{Drive}
 use Rattle.codes.specs.declared.operation.Operation.the-variants.{Read, Write, Space, ModeSelect, ModeSense, ReadPosition}
@@ -88,3 +89,23 @@ module _ (d : Drive) (cmd : List ℕ) where
     pub form-last : (k ≡ 0x00 → ⊥) → not (eqb k 0x06) ≡ fieldError ReadPosition d cmd
     unfolding fieldError
     form-last h = rw (← e, ne-eqb k 0x00 h) refl
+
+at-least : (b : ℕ) → (b ≡ 0 → ⊥) → 1 ≤ b
+at-least zero z = absurd (z refl)
+at-least (suc b) z = omega arith
+
+-- ---- the fields of WRITE, as what is put requires them
+
+module _ (d : Drive) (cmd sent : List ℕ) (n : ℕ) (en : n ≡ transferOf cmd) (w : fieldError Write d cmd ≡ false) (q : bytesAsked d cmd ≤ length sent) where
+  pub fixed-fields : fixedOf cmd ≡ true → (1 ≤ d .«block_length») × (n * d .«block_length» ≤ length sent)
+  unfolding fieldError bytesAsked
+  fixed-fields f =
+      let z : d .«block_length» ≡ 0 → ⊥ = eqb-false (d .«block_length») 0 (rw f at w) in
+      (at-least (d .«block_length») z, rw en (rw f at q))
+
+  pub one-field : fixedOf cmd ≡ false → (n ≡ 0 → ⊥) → (1 ≤ n) × (n ≤ largestBlock) × (1 * n ≤ length sent)
+  unfolding fieldError bytesAsked
+  one-field f z =
+      let l : transferOf cmd ≤ largestBlock = ltb-false largestBlock (transferOf cmd) (rw f at w) in
+      let m : transferOf cmd ≤ length sent = rw f at q in
+      (at-least n z, omega arith, omega arith)

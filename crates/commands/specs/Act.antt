@@ -21,8 +21,8 @@ use Rattle.codes.specs.declared.operation.Operation.{Operation}
 use Rattle.codes.specs.declared.operation.Operation.the-variants.{TestUnitReady, Rewind, RequestSense, ReadBlockLimits, Read, Write, WriteFilemarks, Space, ModeSelect, Erase, ModeSense, LoadUnload, Locate, ReadPosition, NotServed}
 use Rattle.codes.specs.Fields.{fixedOf, siliOf, transferOf, spaceCodeOf, spaceCountOf, changesPartition, objectOf, partitionOf, loadOf, formOf, dbdOf, allocationOf}
 use Rattle.commands.specs.Kinds.{among, erases}
-use Rattle.transfer.specs.Transfer.{Ended, whole, oddLength, atFilemark, atEnd, Run, runOf, blocksOf, marksOf, fitting, putFrom}
-use Rattle.mode.specs.Mode.{blockLimits, modeData, wholeLength, listRight, newLength, shortPosition, longPosition}
+use Rattle.objects.specs.Transfer.{Ended, whole, oddLength, atFilemark, atEnd, Run, runOf, blocksOf, marksOf, fitting, putFrom}
+use Rattle.commands.specs.Parameters.{blockLimits, modeData, wholeLength, listRight, newLength, shortPosition, longPosition}
 
 -- ---- what a command may see of the partition that it looks at
 

@@ -5,3 +5,4 @@ pub mod Tests
 pub mod Step
 pub mod Call
 pub mod Left
+pub mod Parameters

@@ -17,7 +17,7 @@ use Rattle.codes.specs.Codes.{masksHold}
 use Rattle.codes.specs.Fields.{fixedOf, siliOf, transferOf, spaceCodeOf, changesPartition, partitionOf, formOf, dbdOf, pageOf, pfOf, allocationOf}
 use Rattle.commands.specs.Stop.{Stop, refuse, attend, fault}
 use Rattle.commands.specs.Kinds.{among, passesAttention, isServed, needsCartridge, locates, writes}
-use Rattle.mode.specs.Mode.{limitsLength, headerLength, wholeLength, shortLength, longLength, listLengthKnown}
+use Rattle.commands.specs.Parameters.{limitsLength, headerLength, wholeLength, shortLength, longLength, listLengthKnown}
 use Rattle.commands.specs.Act.{Seen, overBlocks, overFilemarks, toEnd, shortForm, longForm, senseAsked}
 
 -- "length × block length (FIXED) or length bytes"

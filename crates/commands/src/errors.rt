@@ -4,6 +4,13 @@ ghost use Prim.Native.Nat.{_≤_};
 ghost use lib.ListN.{length};
 ghost use Rattle.codes.specs.declared.operation.Operation.the-variants.{Read, Write, Space, ModeSelect, ModeSense, ReadPosition};
 ghost use Rattle.commands.specs.Tests.{bytesAsked, fieldError};
+use crate::numbers::ALL_PAGES;
+use crate::numbers::LONG_FORM;
+use crate::numbers::NO_PAGE;
+use crate::numbers::OVER_BLOCKS;
+use crate::numbers::OVER_FILEMARKS;
+use crate::numbers::SHORT_FORM;
+use crate::numbers::TO_END;
 use codes::Operation;
 use record::Drive;
 
@@ -38,13 +45,13 @@ fn is_space_wrong(d: Drive, cmd: &[u8]) -> bool
     ensures { λ r. ⌜ r ≡ fieldError Space d (now (cmd .entry)) ⌝ }
 {
     let code = codes::space_code(cmd);
-    if code == 0 {
+    if code == OVER_BLOCKS {
         return false;
     }
-    if code == 1 {
+    if code == OVER_FILEMARKS {
         return false;
     }
-    code != 3
+    code != TO_END
 }
 
 // MODE SELECT: PF not set.
@@ -61,10 +68,10 @@ fn is_page_wrong(d: Drive, cmd: &[u8]) -> bool
     ensures { λ r. ⌜ r ≡ fieldError ModeSense d (now (cmd .entry)) ⌝ }
 {
     let page = codes::page(cmd);
-    if page == 0x00 {
+    if page == NO_PAGE {
         return false;
     }
-    page != 0x3f
+    page != ALL_PAGES
 }
 
 // READ POSITION: another form than 00h and 06h.
@@ -73,10 +80,10 @@ fn is_form_wrong(d: Drive, cmd: &[u8]) -> bool
     ensures { λ r. ⌜ r ≡ fieldError ReadPosition d (now (cmd .entry)) ⌝ }
 {
     let form = codes::form(cmd);
-    if form == 0x00 {
+    if form == SHORT_FORM {
         return false;
     }
-    form != 0x06
+    form != LONG_FORM
 }
 
 // Whether a field is wrong beyond the masks.

@@ -1,27 +1,34 @@
-// The commands: their definitions (specs/), in document 01's order and words, and the code that serves them.
+// The commands: their definitions (specs/), in document 01's order and words, and what the code that serves them shares.
 mod deeds;
 mod errors;
 mod kinds;
-mod replies;
+mod numbers;
 mod senses;
 
 pub use deeds::Left;
 pub use deeds::at;
 pub use deeds::checked;
 pub use deeds::good;
-pub use deeds::locate;
-pub use deeds::select;
 pub use deeds::target_of;
+pub use deeds::unattended;
 pub use errors::bytes_asked;
 pub use errors::is_field_wrong;
 pub use kinds::is_served;
 pub use kinds::needs_cartridge;
 pub use kinds::passes_attention;
 pub use kinds::writes;
-pub use replies::mode_sense;
-pub use replies::read_block_limits;
-pub use replies::request_sense;
-pub use replies::unattended;
+pub use numbers::ALL_PAGES;
+pub use numbers::HEADER_LENGTH;
+pub use numbers::LIMITS_LENGTH;
+pub use numbers::LONG_FORM;
+pub use numbers::LONG_LENGTH;
+pub use numbers::NO_PAGE;
+pub use numbers::OVER_BLOCKS;
+pub use numbers::OVER_FILEMARKS;
+pub use numbers::SHORT_FORM;
+pub use numbers::SHORT_LENGTH;
+pub use numbers::TO_END;
+pub use numbers::WHOLE_LENGTH;
 pub use senses::beginning_met;
 pub use senses::end_met;
 pub use senses::end_told;

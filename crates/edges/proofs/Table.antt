@@ -13,12 +13,12 @@ use Rattle.record.specs.Record.{decodeOf, encodeOf, attentionKnown, emptyHanded
 use Rattle.codes.specs.Codes.{tooShort, inMasks, masksHold}
 use Rattle.codes.specs.Fields.{fixedOf, siliOf, transferOf, spaceCodeOf, spaceCountOf, longOf, changesPartition, objectOf, partitionOf, loadOf, formOf, dbdOf, pageOf, pfOf, allocationOf}
 use Rattle.commands.specs.Stop.{first}
-use Rattle.transfer.specs.Transfer.{runOf, blocksOf, marksOf, fitting, putFrom}
+use Rattle.objects.specs.Transfer.{runOf, blocksOf, marksOf, fitting, putFrom}
 use Rattle.commands.specs.Act.{hidden, readVariable, runTells, reading, offered, goesDown, wrote, writing, marking, spaceTells, movement, spacing, targetOf, locateTells, locating, selecting, replyOf, act, eventsOf}
 use Rattle.commands.specs.Tests.{bytesAsked, fieldError, taken, replyLength, needed, tests}
 use Rattle.commands.specs.Step.{statusOf, keptOf, stopped, acted, unless, step}
 use Rattle.commands.specs.Call.{looksAt, seenOf, seen, inserted, laidOut, applied, stepOf, called, commandCall}
-use Rattle.mode.specs.Mode.{blockLimits, modeData, listLengthKnown, headerRight, descriptorRight, listRight, shortPosition, longPosition}
+use Rattle.commands.specs.Parameters.{blockLimits, modeData, listLengthKnown, headerRight, descriptorRight, listRight, shortPosition, longPosition}
 use Rattle.edges.specs.Cases.{Edges, cases, blank64, ten, filemarks}
 use Rattle.edges.specs.Traps.{Traps, traps, full, guarded}
 

@@ -29,15 +29,15 @@ use Rattle.commands.specs.Act.{Seen, at, targetOf, locating, goesDown, act, eve
 use Rattle.commands.specs.Tests.{tests}
 use Rattle.commands.specs.Step.{acted, keptOf}
 use Rattle.commands.specs.Call.{Lent, lent, Result, partition, looksAt, seen, seenOf, inserted, written, commandTests, commandCall, laidOut, applied}
-use Rattle.commands.proofs.Exact.{refused-4}
+use Rattle.laws.proofs.Exact.{refused-4}
 use Rattle.image.proofs.Judged.{never-both}
-use Rattle.commands.proofs.Passed.{passed}
-use Rattle.commands.proofs.Goes.{has-cartridge}
-use Rattle.commands.proofs.Laid.{Turned}
+use Rattle.laws.proofs.Passed.{passed}
+use Rattle.laws.proofs.Goes.{has-cartridge}
+use Rattle.laws.proofs.Laid.{Turned}
 use Rattle.history.specs.History.{Slot, slot0, slot1, Cartridge, cartridge, protection, slicesLeft, after, ends}
 use Rattle.history.specs.Demand3.{NoFault}
 use Rattle.history.specs.Always.{Use, sends, mounts, protects, callsOf, recordUsed, AlwaysSo}
-use Rattle.commands.proofs.Faultless.{Cart, no-cart, one-part, two-parts, Well, well-test, fault-free, no-fault, empty-whole, inside, looks-in, seen-there, kept-whole}
+use Rattle.laws.proofs.Faultless.{Cart, no-cart, one-part, two-parts, Well, well-test, fault-free, no-fault, empty-whole, inside, looks-in, seen-there, kept-whole}
 use Rattle.history.proofs.Ended.{Ended, by-number, by-sense, by-act, ended, calm-well}
 use Rattle.history.proofs.Acted.{writing-drive, marking-drive, idle, stepped, sees, place, turned, shaped, put-place}
 use Rattle.history.proofs.Told.{protect-turned}

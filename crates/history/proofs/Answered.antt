@@ -21,17 +21,17 @@ use Rattle.codes.specs.declared.operation.Operation.{Operation}
 use Rattle.codes.specs.declared.operation.Operation.the-variants.{Write, WriteFilemarks}
 use Rattle.codes.specs.Codes.{codeOf, operationOf}
 use Rattle.codes.specs.Fields.{fixedOf, transferOf}
-use Rattle.transfer.specs.Transfer.{blocksOf, marksOf, putFrom}
+use Rattle.objects.specs.Transfer.{blocksOf, marksOf, putFrom}
 use Rattle.commands.specs.Stop.{Stop, first}
 use Rattle.commands.specs.Kinds.{erases}
 use Rattle.commands.specs.Act as A
 use Rattle.commands.specs.Act.{Seen, checked, carrying, at, warned, overflowed, offered, goesDown, wrote, writing, marking, act, eventsOf}
 use Rattle.commands.specs.Step.{acted, statusOf}
 use Rattle.commands.specs.Call.{lent, Result, seen, commandTests, commandCall, applied}
-use Rattle.commands.proofs.Classes.{Class, blocks, filemarks, erasing, quiet, classify, no-offers, no-events}
+use Rattle.laws.proofs.Classes.{Class, blocks, filemarks, erasing, quiet, classify, no-offers, no-events}
 use Rattle.history.specs.History.{isGood, caused}
 use Rattle.history.specs.Answered.{bytesPut, Answered}
-use Rattle.commands.proofs.Faultless.{back, place-small}
+use Rattle.laws.proofs.Faultless.{back, place-small}
 use Rattle.history.proofs.Ended.{Ended, by-number, by-sense, by-act, ended, nothing-caused, fitting-first}
 use Rattle.history.proofs.Acted.{none-down, no-marks, acts-caused}
 

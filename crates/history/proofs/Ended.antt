@@ -18,17 +18,17 @@ use Rattle.record.specs.declared.drive.Drive.{Drive}
 use Rattle.record.specs.Record.{attentionKnown, decodeOf, encodeOf, wellRecord, withSense}
 use Rattle.codes.specs.declared.operation.Operation.{Operation}
 use Rattle.codes.specs.Codes.{codeOf, tooShort, operationOf}
-use Rattle.transfer.specs.Transfer.{fitting, putFrom}
-use Rattle.transfer.proofs.Going.{fitting-more, fitting-none}
+use Rattle.objects.specs.Transfer.{fitting, putFrom}
+use Rattle.objects.proofs.Fitting.{fitting-more, fitting-none}
 use Rattle.commands.specs.Stop.{Stop, refuse, attend, fault, first}
 use Rattle.commands.specs.Kinds.{erases}
 use Rattle.commands.specs.Act.{unattended, offered}
 use Rattle.commands.specs.Tests.{tests}
 use Rattle.commands.specs.Step.{checkAnswer, stopped, acted}
 use Rattle.commands.specs.Call.{lent, Result, result, seen, inserted, written, commandTests, commandCall, applied, looksAt}
-use Rattle.commands.proofs.Exact.{call-stops, call-acts, refused-leaves}
+use Rattle.laws.proofs.Exact.{call-stops, call-acts, refused-leaves}
 use Rattle.history.specs.History.{isGood, caused}
-use Rattle.commands.proofs.Faultless.{Cart, no-cart, one-part, two-parts, Well, fault-free, sense-whole, attention-whole}
+use Rattle.laws.proofs.Faultless.{Cart, no-cart, one-part, two-parts, Well, fault-free, sense-whole, attention-whole}
 
 -- ---- lists of tests
 

@@ -16,8 +16,8 @@ use Rattle.record.specs.Record.{decodeOf, encodeOf, attentionKnown, emptyHanded
 use Rattle.codes.specs.Codes.{tooShort, inMasks, masksHold}
 use Rattle.codes.specs.Fields.{fixedOf, siliOf, transferOf, spaceCodeOf, spaceCountOf, longOf, loadOf, pfOf, allocationOf}
 use Rattle.cartridge.specs.Mount.{rightLengths, bothSound, mountFault, mountCall}
-use Rattle.mode.specs.Mode.{listLengthKnown, headerRight, descriptorRight, listRight}
-use Rattle.transfer.specs.Transfer.{blocksOf, marksOf, fitting, putFrom}
+use Rattle.commands.specs.Parameters.{listLengthKnown, headerRight, descriptorRight, listRight}
+use Rattle.objects.specs.Transfer.{blocksOf, marksOf, fitting, putFrom}
 use Rattle.commands.specs.Stop.{first}
 use Rattle.commands.specs.Act.{hidden, readVariable, reading, offered, goesDown, wrote, writing, marking, spaceTells, movement, spacing, selecting, replyOf, act, eventsOf}
 use Rattle.commands.specs.Tests.{bytesAsked, fieldError, taken, replyLength, needed, tests}

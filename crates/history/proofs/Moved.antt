@@ -19,12 +19,12 @@ use Rattle.image.proofs.Facts.{Sound}
 use Rattle.record.specs.declared.drive.Drive.{Drive}
 use Rattle.record.specs.Record.{loadedAnew, unloaded}
 use Rattle.codes.specs.Fields.{fixedOf, transferOf, spaceCodeOf, spaceCountOf, objectOf, allocationOf, loadOf}
-use Rattle.transfer.specs.Transfer.{Run, runOf, after, halted, oddLength}
-use Rattle.mode.specs.Mode.{wholeLength, headerLength, headerRight, descriptorRight, listRight, newLength}
+use Rattle.objects.specs.Transfer.{Run, runOf, after, halted, oddLength}
+use Rattle.commands.specs.Parameters.{wholeLength, headerLength, headerRight, descriptorRight, listRight, newLength}
 use Rattle.commands.specs.Act.{Seen, Deed, good, checked, carrying, at, atPartition, withLength, hidden, reading, readVariable, movement, spacing, overBlocks, toEnd, targetOf, locating, selecting}
 use Rattle.commands.specs.Call.{partition}
 use Rattle.history.proofs.Lists.{get-lt}
-use Rattle.commands.proofs.Faultless.{Cart, no-cart, one-part, two-parts, Well}
+use Rattle.laws.proofs.Faultless.{Cart, no-cart, one-part, two-parts, Well}
 
 -- ---- the cartridge of a drive that moved
 

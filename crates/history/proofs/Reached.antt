@@ -23,10 +23,10 @@ use Rattle.commands.specs.Act.{Seen, Deed, good, atPartition, targetOf, locateT
 use Rattle.commands.specs.Tests.{tests, fieldError, taken, replyLength, needed}
 use Rattle.commands.specs.Step.{acted, statusOf, keptOf}
 use Rattle.commands.specs.Call.{lent, Result, seen, written, commandTests, commandCall, applied, looksAt}
-use Rattle.commands.proofs.Exact.{call-acts}
+use Rattle.laws.proofs.Exact.{call-acts}
 use Rattle.history.specs.History.{Slot, slot0, slot1, number, cartridge, isGood, slicesLeft}
 use Rattle.history.specs.Demand3.{NoFault, Mounted, locateFirst, rewind, Reached}
-use Rattle.commands.proofs.Faultless.{fault-free, back, kept-whole}
+use Rattle.laws.proofs.Faultless.{fault-free, back, kept-whole}
 use Rattle.history.proofs.Acted.{idle}
 use Rattle.history.proofs.Always.{command-faultless}
 

@@ -32,11 +32,11 @@ use Rattle.commands.specs.Act.{Seen, Deed, good, checked, giving, at, hidden, o
 use Rattle.commands.specs.Tests.{tests, bytesAsked, fieldError, taken, needed}
 use Rattle.commands.specs.Step.{acted, statusOf, keptOf}
 use Rattle.commands.specs.Call.{Lent, lent, Result, result, partition, looksAt, seenOf, commandTests, commandCall, applied}
-use Rattle.commands.proofs.Exact.{call-acts}
-use Rattle.commands.proofs.Classes.{unchanged}
+use Rattle.laws.proofs.Exact.{call-acts}
+use Rattle.laws.proofs.Classes.{unchanged}
 use Rattle.history.specs.History.{Slot, slot0, slot1, number, Cartridge, cartridge, part, slicesLeft}
 use Rattle.history.specs.Demand3.{NoFault, Mounted, AtBeginning, readLargest, Reading, readOnce, Met, object, endOfData, nothingKnown, says, metOf, readings, readThrough, meetings}
-use Rattle.commands.proofs.Faultless.{Well, fault-free, back, place-small, sense-whole, Inside, inside, seen-there, kept-whole}
+use Rattle.laws.proofs.Faultless.{Well, fault-free, back, place-small, sense-whole, Inside, inside, seen-there, kept-whole}
 use Rattle.history.proofs.Lists.{get-lt, get-getD, drop-none, drop-some}
 use Rattle.history.proofs.Always.{command-faultless}
 

@@ -24,8 +24,8 @@ use Rattle.record.specs.Record.{decodeOf, withSense}
 use Rattle.codes.specs.Codes.{codeOf, operationOf}
 use Rattle.commands.specs.Call.{lent, Result, result, commandCall}
 use Rattle.history.specs.History.{Slot, slot0, slot1, number, Cartridge, cartridge, part, MadeBlank, Lending, together, alone, Call, command, mount, protection, slicesLeft, after, caused, events, ends, past}
-use Rattle.commands.proofs.Faultless.{back, place-small}
-use Rattle.commands.proofs.Laid.{Turned, still}
+use Rattle.laws.proofs.Faultless.{back, place-small}
+use Rattle.laws.proofs.Laid.{Turned, still}
 use Rattle.history.proofs.Ended.{Ended, by-number, by-sense, by-act, ended, nothing-caused}
 use Rattle.history.proofs.Acted.{acts, acts-turned, acts-caused}
 

@@ -12,7 +12,7 @@ use Rattle.objects.specs.Events.{Event, put, cut}
 use Rattle.record.specs.Record.{decodeOf}
 use Rattle.codes.specs.declared.operation.Operation.the-variants.{Write}
 use Rattle.codes.specs.Codes.{codeOf, operationOf}
-use Rattle.transfer.specs.Transfer.{putFrom}
+use Rattle.objects.specs.Transfer.{putFrom}
 use Rattle.commands.specs.Stop.{Stop, first}
 use Rattle.commands.specs.Kinds.{erases}
 use Rattle.commands.specs.Act.{offered, eventsOf}

@@ -12,7 +12,7 @@ use Rattle.objects.specs.Events.{Event, cut}
 use Rattle.image.specs.Services.{blankCall, protectCall}
 use Rattle.record.specs.Record.{decodeOf}
 use Rattle.codes.specs.Codes.{codeOf, operationOf}
-use Rattle.transfer.specs.Transfer.{putFrom}
+use Rattle.objects.specs.Transfer.{putFrom}
 use Rattle.commands.specs.Kinds.{erases}
 use Rattle.commands.specs.Act.{offered}
 use Rattle.commands.specs.Call.{lent, Result, commandCall}

@@ -10,3 +10,5 @@ pub mod Obeys
 pub mod Trailer
 pub mod Freed
 pub mod Judged
+pub mod Down
+pub mod Lies

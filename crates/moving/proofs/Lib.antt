@@ -1,2 +1,4 @@
 pub mod Counts
-pub mod Spacing
+pub mod Along
+pub mod Located
+pub mod Spaced

@@ -3,3 +3,4 @@ pub mod Residue
 pub mod Standing
 pub mod Count
 pub mod Cases
+pub mod Fitting

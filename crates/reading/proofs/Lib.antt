@@ -1,3 +1,3 @@
 pub mod Running
 pub mod Meeting
-pub mod Positioned
+pub mod Whole

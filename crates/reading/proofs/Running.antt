@@ -18,10 +18,10 @@ use Rattle.image.specs.Image.{count, sound, objects}
 use Rattle.image.proofs.Facts.{sound-parts}
 use Rattle.image.proofs.Objects.{length-objects, end-bytes}
 use Rattle.record.specs.declared.drive.Drive.{Drive}
-use Rattle.transfer.specs.declared.Why.the-variants.{Whole, OddLength, AtFilemark, AtEnd}
-use Rattle.transfer.specs.declared.Blocks.{Blocks}
-use Rattle.transfer.specs.Transfer.{oddLength, Run, halted, after, runOf}
-use Rattle.transfer.specs.Runs.{told}
+use Rattle.reading.specs.declared.runs.Ended.the-variants.{Whole, OddLength, AtFilemark, AtEnd}
+use Rattle.reading.specs.declared.runs.Blocks.{Blocks}
+use Rattle.objects.specs.Transfer.{oddLength, Run, halted, after, runOf}
+use Rattle.reading.specs.Runs.{runWith}
 use Rattle.commands.specs.declared.deeds.Left.{Left}
 use Rattle.commands.specs.Act.{Seen, carrying, good, checked, at, filemarkMet, endMet, oddMet, runTells, readRun}
 use Rattle.commands.specs.Left.{leftBy}
@@ -59,7 +59,7 @@ ahead-bytes s h p =
     omega (arith, a, e, w, t, k .data-in, k .dir-is)
 
 -- the bytes carried and the position after are numbers of 32 bits
-module _ (s : List ℕ) (h : sound s ≡ true) (p b n : ℕ) (g : p ≤ count s) (r : Blocks) (e : told r (runOf b n (drop p (objects s)) .bytes) ≡ runOf b n (drop p (objects s))) where
+module _ (s : List ℕ) (h : sound s ≡ true) (p b n : ℕ) (g : p ≤ count s) (r : Blocks) (e : runWith r (runOf b n (drop p (objects s)) .bytes) ≡ runOf b n (drop p (objects s))) where
   pub carried-fits : r .blocks * b < 2 ^ 32
   carried-fits =
       let k = sound-parts s h in
@@ -77,23 +77,23 @@ module _ (s : List ℕ) (h : sound s ≡ true) (p b n : ℕ) (g : p ≤ count s)
 -- ---- what it leaves, case by case
 
 module _ (d e : Drive) (v : Seen) (n k : ℕ) (run : Blocks) (a : e ≡ at d (d .position + run .crossed)) (r : Left) where
-  pub leaves-whole : run .why ≡ Whole → r ≡ leftBy (carrying k (good e)) → r ≡ leftBy (carrying k (readRun d v n (told run [])))
+  pub leaves-whole : run .why ≡ Whole → r ≡ leftBy (carrying k (good e)) → r ≡ leftBy (carrying k (readRun d v n (runWith run [])))
   unfolding runTells
   leaves-whole w q = q ∙ rw (a, w) refl
 
-  pub leaves-odd : run .why ≡ OddLength → (t : Sense) → t ≡ oddMet (subℕ n (run .blocks)) → r ≡ leftBy (carrying k (checked e t)) → r ≡ leftBy (carrying k (readRun d v n (told run [])))
+  pub leaves-odd : run .why ≡ OddLength → (t : Sense) → t ≡ oddMet (subℕ n (run .blocks)) → r ≡ leftBy (carrying k (checked e t)) → r ≡ leftBy (carrying k (readRun d v n (runWith run [])))
   unfolding runTells
   leaves-odd w t et q = q ∙ rw (a, w, et) refl
 
-  pub leaves-marked : run .why ≡ AtFilemark → (t : Sense) → t ≡ filemarkMet (subℕ n (run .blocks)) → r ≡ leftBy (carrying k (checked e t)) → r ≡ leftBy (carrying k (readRun d v n (told run [])))
+  pub leaves-marked : run .why ≡ AtFilemark → (t : Sense) → t ≡ filemarkMet (subℕ n (run .blocks)) → r ≡ leftBy (carrying k (checked e t)) → r ≡ leftBy (carrying k (readRun d v n (runWith run [])))
   unfolding runTells
   leaves-marked w t et q = q ∙ rw (a, w, et) refl
 
-  pub leaves-ended : run .why ≡ AtEnd → (t : Sense) → t ≡ endMet v (subℕ n (run .blocks)) → r ≡ leftBy (carrying k (checked e t)) → r ≡ leftBy (carrying k (readRun d v n (told run [])))
+  pub leaves-ended : run .why ≡ AtEnd → (t : Sense) → t ≡ endMet v (subℕ n (run .blocks)) → r ≡ leftBy (carrying k (checked e t)) → r ≡ leftBy (carrying k (readRun d v n (runWith run [])))
   unfolding runTells
   leaves-ended w t et q = q ∙ rw (a, w, et) refl
 
-pub run-left : (d : Drive) (v : Seen) (n b : ℕ) (xs : List Object) (run : Blocks) → told run (runOf b n xs .bytes) ≡ runOf b n xs → (r : Left) → r ≡ leftBy (carrying (run .blocks * b) (readRun d v n (told run []))) → r ≡ leftBy (readRun d v n (runOf b n xs))
+pub run-left : (d : Drive) (v : Seen) (n b : ℕ) (xs : List Object) (run : Blocks) → runWith run (runOf b n xs .bytes) ≡ runOf b n xs → (r : Left) → r ≡ leftBy (carrying (run .blocks * b) (readRun d v n (runWith run []))) → r ≡ leftBy (readRun d v n (runOf b n xs))
 run-left d v n b xs run e r q =
     let k : run .blocks * b ≡ length (runOf b n xs .bytes) = ap (λ (x : Run). x .blocks * b) e ∙ sym (reaches b n xs .many) in
     q

@@ -8,31 +8,32 @@ ghost use Rattle.words.specs.Words.{over};
 ghost use Rattle.image.specs.Image.{count, sound, objects};
 ghost use Rattle.codes.specs.declared.operation.Operation.the-variants.{Read};
 ghost use Rattle.codes.specs.Fields.{transferOf};
-ghost use Rattle.transfer.specs.Transfer.{runOf};
-ghost use Rattle.transfer.specs.Runs.{told};
+ghost use Rattle.objects.specs.Transfer.{runOf};
+ghost use Rattle.reading.specs.Runs.{runWith};
 ghost use Rattle.commands.specs.Act.{hidden, carrying, readBlock, readVariable, readRun, reading};
 ghost use Rattle.commands.specs.Tests.{bytesAsked, fieldError};
 ghost use Rattle.commands.specs.Call.{seenOf};
 ghost use Rattle.commands.specs.Left.{leftBy};
+use crate::runs::Blocks;
+use crate::runs::Ended;
+use crate::runs::read_blocks;
 use commands::Left;
 use record::Drive;
-use transfer::Blocks;
-use transfer::Why;
 
 // What a run of blocks of the partition s leaves, n having been asked for: the drive behind what was crossed, and why it ended.
 fn run_leaves(s: &[u8], d: Drive, n: u32, run: Blocks, carried: u32) -> Left
     requires { ⌜ (sound (now s) ≡ true) × (d .position + run .crossed < 2 ^ 32) ⌝ }
-    ensures { λ r. ⌜ r ≡ leftBy (carrying carried (readRun d (seenOf (now (s .entry))) n (told run []))) ⌝ }
+    ensures { λ r. ⌜ r ≡ leftBy (carrying carried (readRun d (seenOf (now (s .entry))) n (runWith run []))) ⌝ }
 {
     let e = commands::at(d, d.position + run.crossed);
     let blocks = run.blocks;
     let why = run.why;
     match why {
-        Why::Whole => commands::good(e, carried),
+        Ended::Whole => commands::good(e, carried),
         // Crossed, but not among the blocks that were read.
-        Why::OddLength => commands::checked(e, commands::odd_met(n, blocks), carried),
-        Why::AtFilemark => commands::checked(e, commands::filemark_met(n, blocks), carried),
-        Why::AtEnd => commands::checked(e, commands::end_met(s, n, blocks), carried),
+        Ended::OddLength => commands::checked(e, commands::odd_met(n, blocks), carried),
+        Ended::AtFilemark => commands::checked(e, commands::filemark_met(n, blocks), carried),
+        Ended::AtEnd => commands::checked(e, commands::end_met(s, n, blocks), carried),
     }
 }
 
@@ -41,7 +42,7 @@ fn read_fixed(s: &[u8], d: Drive, n: u32, received: &mut [u8]) -> Left
     requires { ⌜ (sound (now s) ≡ true) × (d .position ≤ count (now s)) × (1 ≤ d .«block_length») × (n * d .«block_length» ≤ length (now received)) ⌝ }
     ensures { λ r. ⌜ (r ≡ leftBy (readRun d (seenOf (now (s .entry))) n (runOf (d .«block_length») n (drop (d .position) (objects (now (s .entry))))))) × (now (received .exit) ≡ over (now (received .entry)) 0 (runOf (d .«block_length») n (drop (d .position) (objects (now (s .entry)))) .bytes)) ⌝ }
 {
-    let run = transfer::read_blocks(s, d.position, n, d.block_length, received);
+    let run = read_blocks(s, d.position, n, d.block_length, received);
     run_leaves(s, d, n, run, run.blocks * d.block_length)
 }
 

@@ -1,6 +1,5 @@
-// READ and READ POSITION: what they leave of the drive, and what they carry into the receiving buffer.
+// READ: what it leaves of the drive, and what it carries into the receiving buffer.
 mod blocks;
-mod position;
+mod runs;
 
 pub use blocks::read;
-pub use position::read_position;

@@ -17,6 +17,28 @@ use Rattle.record.specs.declared.drive.Drive.{Drive}
 abbrev pub recordLength : ℕ
 recordLength = 30
 
+-- where each field starts: loaded; partitions; current partition; pending attention; position (4); block length (4); kept sense (18)
+abbrev pub loadedAt : ℕ
+loadedAt = 0
+
+abbrev pub partitionsAt : ℕ
+partitionsAt = 1
+
+abbrev pub currentAt : ℕ
+currentAt = 2
+
+abbrev pub attentionAt : ℕ
+attentionAt = 3
+
+abbrev pub positionAt : ℕ
+positionAt = 4
+
+abbrev pub blockLengthAt : ℕ
+blockLengthAt = 8
+
+abbrev pub senseAt : ℕ
+senseAt = 12
+
 -- "pending attention (00h, 28h, 29h)": none, the medium may have changed, power on or reset
 abbrev pub noAttention : ℕ
 noAttention = 0x00
@@ -33,16 +55,15 @@ mountedBlockLength = 0
 
 -- ---- thirty bytes as a drive, and back
 
--- loaded; partitions; current partition; pending attention; position (4); block length (4); kept sense (18)
 unfoldable pub decodeOf : List ℕ → Drive
 decodeOf s = record {
-  loaded = getD s 0 0;
-  partitions = getD s 1 0;
-  current = getD s 2 0;
-  attention = getD s 3 0;
-  position = be 4 s 4;
-  «block_length» = be 4 s 8;
-  sense = take senseLength (drop 12 s);
+  loaded = getD s loadedAt 0;
+  partitions = getD s partitionsAt 0;
+  current = getD s currentAt 0;
+  attention = getD s attentionAt 0;
+  position = be 4 s positionAt;
+  «block_length» = be 4 s blockLengthAt;
+  sense = take senseLength (drop senseAt s);
 }
 
 unfoldable pub encodeOf : Drive → List ℕ

@@ -3,26 +3,37 @@ ghost use mathlib.Core.Path.{_≡_};
 ghost use Prim.Native.Nat.{_≤_};
 ghost use lib.ListN.{length, take, drop};
 ghost use Rattle.sense.specs.Sense.{senseLength};
-ghost use Rattle.record.specs.Record.{recordLength, decodeOf, encodeOf, wellRecord};
+ghost use Rattle.record.specs.Record.{recordLength, senseAt, decodeOf, encodeOf, wellRecord};
 use crate::drive::Drive;
 use crate::states::is_well_formed;
+use sense::SENSE_LENGTH;
 use words::be32_at;
 use words::copy_at;
 use words::put32_at;
 
-// The record's length; where the kept sense stands, and its length.
 pub const RECORD_LENGTH: usize = 30;
+
+// Where each field starts.
+pub const LOADED: usize = 0;
+
+const PARTITIONS: usize = 1;
+
+const CURRENT: usize = 2;
+
+const ATTENTION: usize = 3;
+
+const POSITION: usize = 4;
+
+const BLOCK_LENGTH: usize = 8;
 
 const SENSE: usize = 12;
 
-const SENSE_LENGTH: usize = 18;
-
 // The kept sense of a record.
-fn sense_at(s: &[u8]) -> [u8; 18]
+fn sense_at(s: &[u8]) -> [u8; SENSE_LENGTH]
     requires { ⌜ recordLength ≤ length (now s) ⌝ }
-    ensures { λ r. ⌜ r ≡ take senseLength (drop 12 (now (s .entry))) ⌝ }
+    ensures { λ r. ⌜ r ≡ take senseLength (drop senseAt (now (s .entry))) ⌝ }
 {
-    let mut sense = [0u8; 18];
+    let mut sense = [0u8; SENSE_LENGTH];
     let mut i: usize = 0;
     while i < SENSE_LENGTH {
         sense[i] = s[SENSE + i];
@@ -38,12 +49,12 @@ pub fn decode(s: &[u8]) -> Drive
 {
     let sense = sense_at(s);
     Drive {
-        loaded: s[0],
-        partitions: s[1],
-        current: s[2],
-        attention: s[3],
-        position: be32_at(s, 4),
-        block_length: be32_at(s, 8),
+        loaded: s[LOADED],
+        partitions: s[PARTITIONS],
+        current: s[CURRENT],
+        attention: s[ATTENTION],
+        position: be32_at(s, POSITION),
+        block_length: be32_at(s, BLOCK_LENGTH),
         sense: sense,
     }
 }
@@ -55,9 +66,9 @@ pub fn encode(d: Drive, out: &mut [u8])
 {
     let sense = d.sense;
     let head = [d.loaded, d.partitions, d.current, d.attention];
-    copy_at(out, 0, &head);
-    put32_at(out, 4, d.position);
-    put32_at(out, 8, d.block_length);
+    copy_at(out, LOADED, &head);
+    put32_at(out, POSITION, d.position);
+    put32_at(out, BLOCK_LENGTH, d.block_length);
     copy_at(out, SENSE, &sense);
 }
 

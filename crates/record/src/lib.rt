@@ -4,6 +4,7 @@ mod codec;
 mod drive;
 mod states;
 
+pub use codec::LOADED;
 pub use codec::RECORD_LENGTH;
 pub use codec::decode;
 pub use codec::encode;

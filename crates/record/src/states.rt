@@ -2,6 +2,7 @@
 ghost use mathlib.Core.Path.{_≡_};
 ghost use Rattle.record.specs.Record.{attentionKnown, emptyHanded, placed, wellFormed, freshDrive, mountedDrive, loadedAnew, unloaded, withSense};
 use crate::drive::Drive;
+use sense::SENSE_LENGTH;
 
 // The pending attentions, and the block length that a mount sets.
 pub const NO_ATTENTION: u8 = 0x00;
@@ -124,7 +125,7 @@ pub fn unload(d: Drive) -> Drive
 }
 
 // The kept sense replaced whole.
-pub fn with_sense(d: Drive, sense: [u8; 18]) -> Drive
+pub fn with_sense(d: Drive, sense: [u8; SENSE_LENGTH]) -> Drive
     ensures { λ r. ⌜ r ≡ withSense d sense ⌝ }
 {
     let mut e = d;

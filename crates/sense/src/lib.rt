@@ -6,6 +6,9 @@ ghost use lib.IntN.{subℕ};
 ghost use Rattle.sense.specs.Sense.{senseBytes, partsOf, emptySense, attentionSense};
 ghost use Rattle.sense.specs.Sense.{reports as Sense·reports, told as Sense·told, plainly as Sense·plainly};
 
+// How many bytes a sense has.
+pub const SENSE_LENGTH: usize = 18;
+
 // The sense keys.
 pub const NO_SENSE: u8 = 0x0;
 
@@ -50,7 +53,7 @@ fn flags_and_key(filemark: bool, eom: bool, ili: bool, key: u8) -> u8
 }
 
 // The eighteen bytes of s.
-pub fn bytes_of(s: Sense) -> [u8; 18]
+pub fn bytes_of(s: Sense) -> [u8; SENSE_LENGTH]
     ensures { λ r. ⌜ r ≡ senseBytes s ⌝ }
 {
     let first = first(s.valid);
@@ -79,7 +82,7 @@ pub fn bytes_of(s: Sense) -> [u8; 18]
 }
 
 // Eighteen bytes taken apart.
-pub fn parts_of(b: &[u8; 18]) -> Sense
+pub fn parts_of(b: &[u8; SENSE_LENGTH]) -> Sense
     ensures { λ r. ⌜ r ≡ partsOf (now (b .entry)) ⌝ }
 {
     let third = b[2];
@@ -141,21 +144,21 @@ pub fn told(
 }
 
 // The sense with key, ASC and ASCQ alone.
-pub fn plainly(key: u8, asc: u8, ascq: u8) -> [u8; 18]
+pub fn plainly(key: u8, asc: u8, ascq: u8) -> [u8; SENSE_LENGTH]
     ensures { λ r. ⌜ r ≡ senseBytes (Sense·plainly key asc ascq) ⌝ }
 {
     bytes_of(told(false, false, false, false, key, asc, ascq, 0, 0))
 }
 
 // The empty sense.
-pub fn empty() -> [u8; 18]
+pub fn empty() -> [u8; SENSE_LENGTH]
     ensures { λ r. ⌜ r ≡ emptySense ⌝ }
 {
     plainly(NO_SENSE, 0x00, 0x00)
 }
 
 // The sense of a waiting attention.
-pub fn of_attention(attention: u8) -> [u8; 18]
+pub fn of_attention(attention: u8) -> [u8; SENSE_LENGTH]
     ensures { λ r. ⌜ r ≡ attentionSense attention ⌝ }
 {
     plainly(UNIT_ATTENTION, attention, 0x00)

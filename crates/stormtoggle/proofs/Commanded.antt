@@ -16,9 +16,9 @@ use Rattle.record.proofs.Judged.{no-record}
 use Rattle.codes.specs.Codes.{tooShort}
 use Rattle.commands.specs.Stop.{refuse, first}
 use Rattle.commands.specs.Call.{Lent, Result, result, written, driveCall, commandTests, commandCall}
-use Rattle.commands.proofs.Exact.{first-at, call-stops, refused-leaves}
-use Rattle.steps.specs.declared.stepping.Served.{Served}
-use Rattle.steps.specs.Served.{outcomeOf}
+use Rattle.laws.proofs.Exact.{first-at, call-stops, refused-leaves}
+use Rattle.step.specs.declared.stepping.Served.{Served}
+use Rattle.step.specs.Served.{outcomeOf}
 use Rattle.stormtoggle.specs.Calls.{returned, numberedResult}
 
 module _ (rec : List ℕ) (x : Lent) where

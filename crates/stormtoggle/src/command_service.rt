@@ -23,7 +23,7 @@ pub fn command(
         return answers::refused(answers::RECORD_FAULT);
     }
     let d = record::decode(rec);
-    let s = lending::serve_lent(d, cmd, p0, p1, sent, received);
+    let s = drive::serve_lent(d, cmd, p0, p1, sent, received);
     let drive = s.drive;
     let answer = s.answer;
     if answer.refusal != 0 {

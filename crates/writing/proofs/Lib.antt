@@ -1,1 +1,3 @@
 pub mod Wrote
+pub mod Going
+pub mod Sent

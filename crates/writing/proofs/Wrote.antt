@@ -22,8 +22,8 @@ use Rattle.codes.specs.declared.operation.Operation.{Operation}
 use Rattle.codes.specs.declared.operation.Operation.the-variants.{Write, WriteFilemarks, Erase}
 use Rattle.codes.specs.Fields.{fixedOf, transferOf, longOf}
 use Rattle.sense.specs.declared.Sense.{Sense}
-use Rattle.transfer.specs.Transfer.{blocksOf, marksOf, fitting, putFrom}
-use Rattle.transfer.proofs.Down.{Down, AllKept, down, down-inside, marks-kept}
+use Rattle.objects.specs.Transfer.{blocksOf, marksOf, fitting, putFrom}
+use Rattle.image.proofs.Down.{Down, AllKept, down, down-inside, marks-kept}
 use Rattle.commands.specs.declared.deeds.Left.{Left}
 use Rattle.commands.specs.Act.{Deed, carrying, checked, good, at, warned, overflowed, offered, goesDown, wrote, writing, marking, eventsOf}
 use Rattle.commands.specs.Step.{acted}

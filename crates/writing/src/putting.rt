@@ -14,6 +14,8 @@ ghost use Rattle.commands.specs.Act.{carrying, checked, good, at, warned, overf
 ghost use Rattle.commands.specs.Tests.{bytesAsked, fieldError};
 ghost use Rattle.commands.specs.Call.{seenOf};
 ghost use Rattle.commands.specs.Left.{leftBy};
+use crate::puts::put_blocks;
+use crate::puts::put_filemarks;
 use commands::Left;
 use record::Drive;
 
@@ -49,10 +51,10 @@ pub fn write(s: &mut [u8], d: Drive, cmd: &[u8], sent: &[u8]) -> Left
     }
     if codes::fixed(cmd) {
         let b = d.block_length;
-        let put = transfer::put_blocks(s, d.position, n, b, sent);
+        let put = put_blocks(s, d.position, n, b, sent);
         return wrote(s, d, n, put, n, put, put * b);
     }
-    let put = transfer::put_blocks(s, d.position, 1, n, sent);
+    let put = put_blocks(s, d.position, 1, n, sent);
     wrote(s, d, 1, put, n, put * n, put * n)
 }
 
@@ -65,6 +67,6 @@ pub fn write_filemarks(s: &mut [u8], d: Drive, cmd: &[u8]) -> Left
     if marks == 0 {
         return commands::good(d, 0);
     }
-    let put = transfer::put_filemarks(s, d.position, marks);
+    let put = put_filemarks(s, d.position, marks);
     wrote(s, d, marks, put, marks, put, 0)
 }

@@ -1,4 +1,4 @@
--- `drive::serve` meets its contract: a walk of its compiled form, step by step. The borrow is opened, the struct is copied out and passed to `steps::serve_by_value`, with the slices at their own lifetimes, shares and names, so that none of them has to come back; the struct of the result is stored where the old one stood, and the borrow is closed at it.
+-- `drive::serve` meets its contract: a walk of its compiled form, step by step. The borrow is opened, the struct is copied out and passed to `step::serve_by_value`, with the slices at their own lifetimes, shares and names, so that none of them has to come back; the struct of the result is stored where the old one stood, and the borrow is closed at it.
 -- All that the proof knows of `serve_by_value` is that it meets its contract.
 -- Assumes nothing.
 use mathlib.Core.Path.{_≡_, refl, ap}
@@ -44,17 +44,17 @@ use denote.Exit.{yes}
 use Rattle.record.specs.declared.drive.Drive.{Drive}
 use Rattle.record.proofs.drive.Drive as T
 use Rattle.record.proofs.drive.Drive.Laws as T′
-use Rattle.steps.specs.declared.stepping.Served.{Served}
-use Rattle.steps.proofs.stepping.Served as N
-use Rattle.steps.proofs.stepping.Served.Laws as N′
+use Rattle.step.specs.declared.stepping.Served.{Served}
+use Rattle.step.proofs.stepping.Served as N
+use Rattle.step.proofs.stepping.Served.Laws as N′
 use Rattle.answers.proofs.Answer as R
 use Rattle.answers.proofs.Answer.Laws as R′
-use Rattle.steps.specs.Served.{outcomeOf}
+use Rattle.step.specs.Served.{outcomeOf}
 use Rattle.commands.specs.Call.{lent, driveCall}
-use Rattle.steps.proofs.serve_by_value as callee
-use Rattle.steps.proofs.serve_by_value.Symbol as callee-def
-use Rattle.steps.proofs.serve_by_value.Symbol.{name as #steps·serve-by-value}
-use Rattle.steps.proofs.serve_by_value.Met as callee-thm
+use Rattle.step.proofs.serve_by_value as callee
+use Rattle.step.proofs.serve_by_value.Symbol as callee-def
+use Rattle.step.proofs.serve_by_value.Symbol.{name as #step·serve-by-value}
+use Rattle.step.proofs.serve_by_value.Met as callee-thm
 use Rattle.drive.proofs.serve.Key.{name as #drive·serve}
 use Rattle.drive.proofs.serve as f
 use Rattle.drive.proofs.serve.Statement as stated
@@ -132,7 +132,7 @@ module _ {M : Type 1} (𝓤 : URA M) (H : Heap 𝓤) (A : Atoms 𝓤) (W : Given
       move ! (1 ∷ 2 ∷ 0 ∷ []) $ feqI ! (List Val) (vptr b o ∷ []) (vptr b o ∷ []) refl $ fjoin3 ! $ fjoin ! $
       owned ! R.the-row (Is R.the-row) (LL.makes R.the-type R′.the-plain 𝓤 H A) (r .answer) _ is $ move ! (1 ∷ 0 ∷ []) $ done !
 
-  module _ (C : Calls 𝓤 H) (Λ : Loops 𝓤 H) (fm : FmC 𝓤 H (W .laws) C) (known : Triple 𝓤 (C #steps·serve-by-value) (Callee 𝓤 H A at-mem run)) where
+  module _ (C : Calls 𝓤 H) (Λ : Loops 𝓤 H) (fm : FmC 𝓤 H (W .laws) C) (known : Triple 𝓤 (C #step·serve-by-value) (Callee 𝓤 H A at-mem run)) where
     walk : Room u8 (length (c .now)) → Room u8 (length (x0 .now)) → Room u8 (length (x1 .now)) → Room u8 (length (s .now)) → Room u8 (length (x2 .now)) → ent 𝓤 (onEntry 𝓤 H A f.signature (κ, (κ0, (κ1, (κ2, (κ3, (κ4, tt)))))) (q, (q0, (q1, (q2, (q3, (q4, tt)))))) a (vptr b o ∷ [], vs-rest)) (WpFn 𝓤 H C Λ code.function (vptr b o ∷ val c ∷ val x0 ∷ val x1 ∷ val s ∷ val x2 ∷ []) Post)
     walk room-c room-x0 room-x1 room-s room-x2 =
         qed W ((‵ (flft κ q) ⊛ toks) ∷ ‵ (owns (MutRef (named 0) κ T.the-row ∷ ShrSlice (named 1) κ0 u8 ∷ MutSlice (named 2) κ1 u8 ∷ MutSlice (named 3) κ2 u8 ∷ ShrSlice (named 4) κ3 u8 ∷ MutSlice (named 5) κ4 u8 ∷ []) a (vptr b o ∷ [], vs-rest)) ∷ []) ∵ enter ! C Λ code.function (vptr b o ∷ val c ∷ val x0 ∷ val x1 ∷ val s ∷ val x2 ∷ []) _ $
@@ -171,7 +171,7 @@ module _ {M : Type 1} (𝓤 : URA M) (H : Heap 𝓤) (A : Atoms 𝓤) (W : Given
         keep ! (0 ∷ 1 ∷ 2 ∷ 3 ∷ 7 ∷ 6 ∷ 4 ∷ []) $ by ! (exits r (zs .1 .1 .0) (zs .1 .1 .1 .0) (zs .1 .1 .1 .1 .1 .0) e e-x0 e-x1 e-x2 (parts r _ is .1 .0)))))))))))))))))))))))))))
 
 module _ {M : Type 1} (𝓤 : URA M) (H : Heap 𝓤) (A : Atoms 𝓤) (W : Given 𝓤 H A) (at-mem : Memory → SProp 𝓤) (run : Routine → Fun 𝓤) where
-  walks : (C : Calls 𝓤 H) (Λ : Loops 𝓤 H) → FmC 𝓤 H (W .laws) C → Triple 𝓤 (C #steps·serve-by-value) (Callee 𝓤 H A at-mem run) → Walks 𝓤 H A f.ended stayed (WpFn 𝓤 H C Λ code.function) (f.clauses 𝓤 H A at-mem run)
+  walks : (C : Calls 𝓤 H) (Λ : Loops 𝓤 H) → FmC 𝓤 H (W .laws) C → Triple 𝓤 (C #step·serve-by-value) (Callee 𝓤 H A at-mem run) → Walks 𝓤 H A f.ended stayed (WpFn 𝓤 H C Λ code.function) (f.clauses 𝓤 H A at-mem run)
   walks C Λ fm known = walked 𝓤 H A f.ended stayed (f.clauses 𝓤 H A at-mem run) (WpFn 𝓤 H C Λ code.function) (λ κs. (ptr-vals, (slice-vals, (slice-vals, (slice-vals, (slice-vals, (slice-vals, tt)))))))
       (λ κs. (mut-tells (named 0) (κs .0) T.the-row, (shr-slice-tells (named 1) (κs .1 .0) u8, (mut-slice-tells (named 2) (κs .1 .1 .0) u8, (mut-slice-tells (named 3) (κs .1 .1 .1 .0) u8, (shr-slice-tells (named 4) (κs .1 .1 .1 .1 .0) u8, (mut-slice-tells (named 5) (κs .1 .1 .1 .1 .1 .0) u8, tt)))))))
       (λ κs qs bounds a g are. via 𝓤 _ (fst∗ 𝓤 _ (emp 𝓤))
@@ -181,7 +181,7 @@ module _ {M : Type 1} (𝓤 : URA M) (H : Heap 𝓤) (A : Atoms 𝓤) (W : Given
   all-go : AllGo 𝓤 H A W 6 (f.signature .params) (f.ended .kept) stayed
   all-go = (goes-ref 𝓤 H A W 6 0 tt (plain (λ _. T.the-row)), (goes-dropped 𝓤 H A W 6 (shrSliceOf (1 ∷ []) tt (plain (λ _. u8))) yes (λ κs x f. refl), (goes-gave-slice 𝓤 H A W 6 2 tt (plain (λ _. u8)), (goes-gave-slice 𝓤 H A W 6 3 tt (plain (λ _. u8)), (goes-dropped 𝓤 H A W 6 (shrSliceOf (4 ∷ []) tt (plain (λ _. u8))) yes (λ κs x f. refl), (goes-gave-slice 𝓤 H A W 6 5 tt (plain (λ _. u8)), tt))))))
 
-meets : {M : Type 1} (𝓤 : URA M) (H : Heap 𝓤) (A : Atoms 𝓤) → Given 𝓤 H A → (at-mem : Memory → SProp 𝓤) (run : Routine → Fun 𝓤) (𝓣 : Tables 𝓤 H) → Triple 𝓤 (𝓣 .C #steps·serve-by-value) (Callee 𝓤 H A at-mem run)
+meets : {M : Type 1} (𝓤 : URA M) (H : Heap 𝓤) (A : Atoms 𝓤) → Given 𝓤 H A → (at-mem : Memory → SProp 𝓤) (run : Routine → Fun 𝓤) (𝓣 : Tables 𝓤 H) → Triple 𝓤 (𝓣 .C #step·serve-by-value) (Callee 𝓤 H A at-mem run)
     → Meets 𝓤 H A f.signature (WpFn 𝓤 H (𝓣 .C) (𝓣 .Λ) code.function) (f.spec 𝓤 H A at-mem run)
 meets 𝓤 H A W at-mem run 𝓣 known =
     walk-meets 𝓤 H A f.ended stayed W (all-go 𝓤 H A W at-mem run) (f.clauses 𝓤 H A at-mem run)
@@ -193,4 +193,4 @@ serve-spec 𝓤 H 𝓜 𝓖 𝓡 =
     entered 𝓤 H (tripleOf 𝓤 H (𝓖 .A) f.signature (f.spec 𝓤 H (𝓖 .A) (𝓜 .mem) (𝓡 .run)))
     (tables 𝓤 H 𝓜 𝓡 code.env .C) (tables 𝓤 H 𝓜 𝓡 code.env .Λ) #drive·serve code.function (code.unfolded 𝓤 H 𝓜 𝓡)
     (meets 𝓤 H (𝓖 .A) (givenOf 𝓤 H 𝓜 𝓖) (𝓜 .mem) (𝓡 .run) (tablesOf 𝓤 H 𝓜 (tables 𝓤 H 𝓜 𝓡 code.env))
-    (cited 𝓤 H (Callee 𝓤 H (𝓖 .A) (𝓜 .mem) (𝓡 .run)) 𝓜 𝓡 code.env #steps·serve-by-value callee-def.routine code.calls-steps·serve-by-value (callee-thm.met 𝓤 H 𝓜 𝓖 𝓡)))
+    (cited 𝓤 H (Callee 𝓤 H (𝓖 .A) (𝓜 .mem) (𝓡 .run)) 𝓜 𝓡 code.env #step·serve-by-value callee-def.routine code.calls-step·serve-by-value (callee-thm.met 𝓤 H 𝓜 𝓖 𝓡)))

@@ -3,7 +3,7 @@
 use native.Mathlib.Omega.{arith}
 use borrow.Author.Needs.{needs}
 use Rattle.reading.proofs.Meeting.{meets-end, meets-filemark, meets-block}
-use Rattle.transfer.proofs.Reading.{few, lies}
+use Rattle.image.proofs.Lies.{few, lies}
 use Rattle.reading.proofs.blocks.read_variable.Statement.{statement}
 use Rattle.reading.proofs.blocks.read_variable.Tie as tie
 

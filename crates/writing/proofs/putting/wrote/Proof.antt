@@ -3,7 +3,7 @@
 use borrow.Author.Needs.{needs}
 use native.Mathlib.Omega.{arith}
 use Rattle.image.proofs.Facts.{sound-parts, entries-in}
-use Rattle.transfer.proofs.Reading.{few}
+use Rattle.image.proofs.Lies.{few}
 use Rattle.writing.proofs.Wrote.{told-short, told-zone, told-good}
 use Rattle.writing.proofs.putting.wrote.Statement.{statement}
 use Rattle.writing.proofs.putting.wrote.Tie as tie

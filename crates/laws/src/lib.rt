@@ -1,0 +1,1 @@
+// What holds of every call by its definition, of objects and bytes alone; no code.

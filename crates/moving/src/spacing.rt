@@ -1,0 +1,106 @@
+// SPACE: the walk over blocks or filemarks, where it ends, and what it tells.
+ghost use mathlib.Core.Path.{_≡_};
+ghost use mathlib.Core.Bool.{true, cond};
+ghost use Prim.Native.Nat.{_≤_, _<_};
+ghost use lib.Dec.{eqb};
+ghost use lib.IntN.{pos, negℤ, natAbs};
+ghost use lib.ListN.{length, drop};
+ghost use Rattle.objects.specs.Movement.{blocks, filemarks, walk, before};
+ghost use Rattle.objects.specs.Movement.{space as Movement·space};
+ghost use Rattle.image.specs.Image.{count, sound, objects};
+ghost use Rattle.moving.specs.Walks.{walkOf};
+ghost use Rattle.commands.specs.Act.{moved, overBlocks, spacing};
+ghost use Rattle.commands.specs.Call.{seenOf};
+ghost use Rattle.commands.specs.Left.{leftBy};
+use crate::walks::Walked;
+use crate::walks::Why;
+use crate::walks::blocks_back;
+use crate::walks::blocks_on;
+use crate::walks::filemarks_back;
+use crate::walks::filemarks_on;
+use commands::Left;
+use commands::OVER_BLOCKS;
+use commands::TO_END;
+use record::Drive;
+
+// The walk on from p over n of what the code counts.
+fn walk_on(s: &[u8], code: u8, p: u32, n: u32) -> Walked
+    requires { ⌜ (sound (now s) ≡ true) × (p ≤ count (now s)) ⌝ }
+    ensures { λ r. ⌜ walkOf r ≡ walk (cond (eqb code overBlocks) blocks filemarks) n (drop p (objects (now (s .entry)))) ⌝ }
+{
+    if code == OVER_BLOCKS {
+        return blocks_on(s, p, n);
+    }
+    filemarks_on(s, p, n)
+}
+
+// The walk back from p over n of what the code counts.
+fn walk_back(s: &[u8], code: u8, p: u32, n: u32) -> Walked
+    requires { ⌜ (sound (now s) ≡ true) × (p ≤ count (now s)) ⌝ }
+    ensures { λ r. ⌜ walkOf r ≡ walk (cond (eqb code overBlocks) blocks filemarks) n (before p (objects (now (s .entry)))) ⌝ }
+{
+    if code == OVER_BLOCKS {
+        return blocks_back(s, p, n);
+    }
+    filemarks_back(s, p, n)
+}
+
+// SPACE by the count n: the residue is n - counted.
+fn space_on(s: &[u8], d: Drive, code: u8, n: u32) -> Left
+    requires { ⌜ (sound (now s) ≡ true) × (d .position ≤ count (now s)) ⌝ }
+    ensures { λ r. ⌜ r ≡ leftBy (moved d (seenOf (now (s .entry))) (pos n) (Movement·space (cond (eqb code overBlocks) blocks filemarks) (pos n) (d .position) (objects (now (s .entry))))) ⌝ }
+{
+    let w = walk_on(s, code, d.position, n);
+    let why = w.why;
+    let gone = commands::at(d, d.position + w.crossed);
+    match why {
+        Why::Done => commands::good(gone, 0),
+        Why::Marked => commands::checked(gone, commands::filemark_met(n, w.counted), 0),
+        Why::Edge => commands::checked(gone, commands::end_met(s, n, w.counted), 0),
+    }
+}
+
+// SPACE by the count -n: the residue is -n less -counted, each in two's complement.
+fn space_back(s: &[u8], d: Drive, code: u8, n: u32) -> Left
+    requires { ⌜ (sound (now s) ≡ true) × (d .position ≤ count (now s)) × (0 < n) ⌝ }
+    ensures { λ r. ⌜ r ≡ leftBy (moved d (seenOf (now (s .entry))) (negℤ (pos n)) (Movement·space (cond (eqb code overBlocks) blocks filemarks) (negℤ (pos n)) (d .position) (objects (now (s .entry))))) ⌝ }
+{
+    let w = walk_back(s, code, d.position, n);
+    let why = w.why;
+    let gone = commands::at(d, d.position - w.crossed);
+    let request = words::difference(0, n);
+    let actual = words::difference(0, w.counted);
+    match why {
+        Why::Done => commands::good(gone, 0),
+        Why::Marked => commands::checked(gone, commands::filemark_met(request, actual), 0),
+        Why::Edge => commands::checked(gone, commands::beginning_met(request, actual), 0),
+    }
+}
+
+// How many a count asks for, whichever way it goes. No step of it leaves its type, at any count of 32 bits.
+fn magnitude(count: i32) -> u32
+    ensures { λ r. ⌜ r ≡ natAbs count ⌝ }
+{
+    if count < 0 {
+        return (-1 - count) as u32 + 1;
+    }
+    count as u32
+}
+
+// SPACE at the position of a sound partition.
+pub fn space(s: &[u8], d: Drive, cmd: &[u8]) -> Left
+    requires { ⌜ (sound (now s) ≡ true) × (d .position ≤ count (now s)) × (5 ≤ length (now cmd)) ⌝ }
+    ensures { λ r. ⌜ r ≡ leftBy (spacing d (now (cmd .entry)) (seenOf (now (s .entry)))) ⌝ }
+{
+    let code = codes::space_code(cmd);
+    if code == TO_END {
+        let end = image::count_of(s);
+        return commands::good(commands::at(d, end), 0);
+    }
+    let count = codes::space_count(cmd);
+    let n = magnitude(count);
+    if count < 0 {
+        return space_back(s, d, code, n);
+    }
+    space_on(s, d, code, n)
+}

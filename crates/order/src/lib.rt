@@ -1,0 +1,101 @@
+// The tests of a command in document 01's order, after 1 and 4: what ends it before it acts.
+ghost use mathlib.Core.Path.{_≡_};
+ghost use mathlib.Core.Bool.{true, false};
+ghost use Prim.Native.Nat.{_≤_};
+ghost use lib.ListN.{length, drop};
+ghost use Rattle.codes.specs.Codes.{codeOf, tooShort, operationOf};
+ghost use Rattle.commands.specs.Stop.{first};
+ghost use Rattle.commands.specs.Tests.{tests};
+ghost use Rattle.commands.specs.Kinds.{writes};
+ghost use Rattle.commands.specs.Act.{Seen};
+ghost use Rattle.order.specs.Stops.{stopOf};
+
+mod conditions;
+mod needs;
+
+use codes::Operation;
+use conditions::attention_waits;
+use conditions::is_any_field_wrong;
+use conditions::is_list_length_wrong;
+use conditions::is_partition_wrong;
+use conditions::is_without_cartridge;
+use conditions::is_write_stopped;
+use needs::needed;
+use needs::taken;
+use record::Drive;
+
+// A refusal by number; the waiting attention; CHECK CONDITION with key, ASC and ASCQ; or nothing, and the command acts.
+pub enum Stop {
+    Refuse(u8),
+    Attend,
+    Fault(u8, u8, u8),
+    Pass,
+}
+
+// The first test that holds from the fields on, for a served command. The conditions stand first, none of which changes
+// anything, so that the order is one list as the document writes it. Numbers 2 and 3 are compared in 64 bits, where no product is
+// cut.
+fn stop_of_served(
+    o: Operation,
+    d: Drive,
+    cmd: &[u8],
+    guarded: bool,
+    sent: &[u8],
+    received: &[u8],
+) -> Stop
+    requires { ⌜ (tooShort (now cmd) ≡ false) × (o ≡ operationOf (codeOf (now cmd))) × (5 ≤ length (now cmd)) ⌝ }
+    ensures { λ r. ⌜ ((v : Seen) → (writes o ≡ true → v .guarded ≡ guarded) → stopOf r ≡ first (drop 2 (tests o d (now (cmd .entry)) v (now (sent .entry)) (length (now (received .entry)))))) ⌝ }
+{
+    let field = is_any_field_wrong(o, d, cmd);
+    let list = is_list_length_wrong(o, cmd);
+    let empty = is_without_cartridge(o, d);
+    let target = is_partition_wrong(o, d, cmd);
+    let protected = is_write_stopped(o, guarded);
+    let takes = taken(o, d, cmd);
+    let needs = needed(o, d, cmd);
+    if field {
+        return Stop::Fault(sense::ILLEGAL_REQUEST, 0x24, 0x00);
+    }
+    if list {
+        return Stop::Fault(sense::ILLEGAL_REQUEST, 0x1a, 0x00);
+    }
+    if empty {
+        return Stop::Fault(sense::NOT_READY, 0x3a, 0x00);
+    }
+    if target {
+        return Stop::Fault(sense::ILLEGAL_REQUEST, 0x24, 0x00);
+    }
+    if protected {
+        return Stop::Fault(sense::DATA_PROTECT, 0x27, 0x00);
+    }
+    if (sent.len() as u64) < takes {
+        return Stop::Refuse(answers::SENT_SHORT);
+    }
+    if (received.len() as u64) < needs {
+        return Stop::Refuse(answers::RECEIVED_SHORT);
+    }
+    Stop::Pass
+}
+
+// The first test that holds, for a command block that is not too short, whatever is seen of the partition looked at beyond whether it is protected.
+pub fn stop_of(
+    o: Operation,
+    d: Drive,
+    cmd: &[u8],
+    guarded: bool,
+    sent: &[u8],
+    received: &[u8],
+) -> Stop
+    requires { ⌜ (tooShort (now cmd) ≡ false) × (o ≡ operationOf (codeOf (now cmd))) ⌝ }
+    ensures { λ r. ⌜ ((v : Seen) → (writes o ≡ true → v .guarded ≡ guarded) → stopOf r ≡ first (tests o d (now (cmd .entry)) v (now (sent .entry)) (length (now (received .entry))))) ⌝ }
+{
+    let waits = attention_waits(o, d);
+    let served = commands::is_served(o);
+    if waits {
+        return Stop::Attend;
+    }
+    if !served {
+        return Stop::Fault(sense::ILLEGAL_REQUEST, 0x20, 0x00);
+    }
+    stop_of_served(o, d, cmd, guarded, sent, received)
+}

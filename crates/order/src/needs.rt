@@ -1,0 +1,104 @@
+// How many bytes a command takes from the data sent, and how many of the receiving buffer it may need: in 64 bits, which hold
+// any length × block length.
+ghost use mathlib.Core.Path.{_≡_};
+ghost use mathlib.Core.Bool.{cond};
+ghost use Prim.Native.Nat.{_≤_, min};
+ghost use lib.Dec.{eqb};
+ghost use lib.ListN.{length};
+ghost use Rattle.sense.specs.Sense.{senseLength};
+ghost use Rattle.record.specs.declared.drive.Drive.{Drive};
+ghost use Rattle.codes.specs.Fields.{dbdOf, formOf, allocationOf};
+ghost use Rattle.commands.specs.Parameters.{headerLength, wholeLength, shortLength, longLength};
+ghost use Rattle.commands.specs.Act.{shortForm};
+ghost use Rattle.commands.specs.Tests.{replyLength};
+ghost use Rattle.commands.specs.Tests.{taken as Tests·taken, needed as Tests·needed};
+use crate::conditions::is_same;
+use codes::Operation;
+use commands::HEADER_LENGTH;
+use commands::LIMITS_LENGTH;
+use commands::LONG_LENGTH;
+use commands::SHORT_FORM;
+use commands::SHORT_LENGTH;
+use commands::WHOLE_LENGTH;
+use record::Drive;
+use sense::SENSE_LENGTH;
+
+// How many bytes the command takes from the data sent.
+pub fn taken(o: Operation, d: Drive, cmd: &[u8]) -> u64
+    requires { ⌜ 5 ≤ length (now cmd) ⌝ }
+    ensures { λ r. ⌜ r ≡ Tests·taken o d (now (cmd .entry)) ⌝ }
+{
+    if is_same(o, Operation::Write) {
+        return commands::bytes_asked(d, cmd);
+    }
+    if is_same(o, Operation::ModeSelect) {
+        return codes::allocation(cmd) as u64;
+    }
+    0
+}
+
+// The smaller of the allocation and a reply's length.
+fn limited(cmd: &[u8], n: u64) -> u64
+    requires { ⌜ 5 ≤ length (now cmd) ⌝ }
+    ensures { λ r. ⌜ r ≡ min (allocationOf (now (cmd .entry))) n ⌝ }
+{
+    let a = codes::allocation(cmd) as u64;
+    if a < n {
+        return a;
+    }
+    n
+}
+
+// The length of the mode data.
+fn mode_length(cmd: &[u8]) -> u64
+    requires { ⌜ 2 ≤ length (now cmd) ⌝ }
+    ensures { λ r. ⌜ r ≡ cond (dbdOf (now (cmd .entry))) headerLength wholeLength ⌝ }
+{
+    if codes::dbd(cmd) {
+        return HEADER_LENGTH as u64;
+    }
+    WHOLE_LENGTH as u64
+}
+
+// The length of the position, by its form.
+fn position_length(cmd: &[u8]) -> u64
+    requires { ⌜ 2 ≤ length (now cmd) ⌝ }
+    ensures { λ r. ⌜ r ≡ cond (eqb (formOf (now (cmd .entry))) shortForm) shortLength longLength ⌝ }
+{
+    let form = codes::form(cmd);
+    if form == SHORT_FORM {
+        return SHORT_LENGTH as u64;
+    }
+    LONG_LENGTH as u64
+}
+
+// The length of its reply: the same whatever it sees of the partition.
+fn reply_length(o: Operation, cmd: &[u8]) -> u64
+    requires { ⌜ 5 ≤ length (now cmd) ⌝ }
+    ensures { λ r. ⌜ ((d : Drive) → length (d .sense) ≡ senseLength → r ≡ replyLength o d (now (cmd .entry))) ⌝ }
+{
+    if is_same(o, Operation::RequestSense) {
+        return limited(cmd, SENSE_LENGTH as u64);
+    }
+    if is_same(o, Operation::ReadBlockLimits) {
+        return LIMITS_LENGTH as u64;
+    }
+    if is_same(o, Operation::ModeSense) {
+        return limited(cmd, mode_length(cmd));
+    }
+    if is_same(o, Operation::ReadPosition) {
+        return position_length(cmd);
+    }
+    0
+}
+
+// How many bytes of the receiving buffer it may need.
+pub fn needed(o: Operation, d: Drive, cmd: &[u8]) -> u64
+    requires { ⌜ 5 ≤ length (now cmd) ⌝ }
+    ensures { λ r. ⌜ r ≡ Tests·needed o d (now (cmd .entry)) ⌝ }
+{
+    if is_same(o, Operation::Read) {
+        return commands::bytes_asked(d, cmd);
+    }
+    reply_length(o, cmd)
+}

@@ -1,0 +1,5 @@
+pub mod Positioned
+pub mod Replying
+pub mod Lists
+pub mod Spelt
+pub mod Selected

@@ -1,0 +1,78 @@
+-- What the commands that answer with data leave in the receiving buffer, and of the drive.
+-- Assumes nothing.
+use Prim.Native.Nat.{ℕ, _^_, _≤_, _<_, min}
+use native.Mathlib.Omega.{arith}
+use mathlib.Core.Path.{_≡_, refl, ap, _∙_}
+use mathlib.Core.Bool.{Bool, true, false, cond}
+use mathlib.Core.List.{List, [], _∷_}
+use borrow.Author.Tests.{eq-eqb, ne-eqb}
+use lib.Dec.{eqb}
+use lib.ListN.{length, length-take}
+use Rattle.words.specs.Words.{bytes, over, limited}
+use Rattle.sense.specs.Sense.{attentionSense}
+use Rattle.record.specs.declared.drive.Drive.{Drive}
+use Rattle.record.specs.Record.{noAttention}
+use Rattle.codes.specs.declared.operation.Operation.{Operation}
+use Rattle.codes.specs.declared.operation.Operation.the-variants.{RequestSense, ReadBlockLimits, ModeSense, ReadPosition}
+use Rattle.codes.specs.Fields.{allocationOf, dbdOf, formOf}
+use Rattle.commands.specs.Parameters.{headerLength, wholeLength, blockLimits, modeData, shortPosition, longPosition}
+use Rattle.commands.specs.declared.deeds.Left.{Left}
+use Rattle.commands.specs.Kinds.{among}
+use Rattle.commands.specs.Act.{Seen, carrying, good, unattended, shortForm, senseAsked, replyOf, act}
+use Rattle.commands.specs.Tests.{replyLength}
+use Rattle.commands.specs.Call.{nothing}
+use Rattle.commands.specs.Left.{leftBy, protectedOnly}
+
+module _ (d : Drive) (b : List ℕ) where
+  pub kept-asked : d .attention ≡ noAttention → b ≡ d .sense → b ≡ senseAsked d
+  kept-asked h q = rw (eq-eqb (d .attention) noAttention h) q
+
+  pub attention-asked : (d .attention ≡ noAttention → ⊥) → b ≡ attentionSense (d .attention) → b ≡ senseAsked d
+  attention-asked h q = rw (ne-eqb (d .attention) noAttention h) q
+
+-- a reply of at most one byte's allocation has a length that 32 bits hold
+pub reply-small : (n k : ℕ) (b : List ℕ) → k ≡ length (limited n b) → n < 2 ^ 8 → k < 2 ^ 32
+reply-small n k b e h =
+    let w : k ≡ min n (length b) = e ∙ length-take n b in
+    omega arith
+
+-- REQUEST SENSE: b is the sense asked for, n the allocation
+module _ (d : Drive) (cmd b : List ℕ) (n : ℕ) (eb : b ≡ senseAsked d) (en : n ≡ allocationOf cmd) where
+  pub sense-reply : limited n b ≡ replyOf RequestSense d cmd nothing
+  unfolding replyOf
+  sense-reply = rw (eb, en) refl
+
+  pub sense-left : (k : ℕ) → k ≡ length (limited n b) → (e : Drive) → e ≡ unattended d → (r : Left) → r ≡ leftBy (carrying k (good e)) → r ≡ leftBy (act RequestSense d cmd [] nothing)
+  unfolding act
+  sense-left k ek e ee r q = q ∙ rw (ee, ek, sense-reply) refl
+
+-- READ BLOCK LIMITS
+module _ (d : Drive) (b : List ℕ) (eb : b ≡ blockLimits) where
+  pub limits-reply : b ≡ replyOf ReadBlockLimits d [] nothing
+  unfolding replyOf
+  limits-reply = eb
+
+  pub limits-left : (r : Left) → r ≡ leftBy (carrying 6 (good d)) → r ≡ leftBy (act ReadBlockLimits d [] [] nothing)
+  unfolding act replyOf blockLimits bytes
+  limits-left r q = q
+
+-- MODE SENSE: b is the mode data, n the allocation
+module _ (d : Drive) (cmd b : List ℕ) (n : ℕ) (g : Bool) (en : n ≡ allocationOf cmd) (t : Bool) (et : t ≡ dbdOf cmd) where
+  pub header-reply : t ≡ true → b ≡ modeData true g 0 → limited n b ≡ replyOf ModeSense d cmd (protectedOnly g)
+  unfolding replyOf modeData
+  header-reply h eb = rw (← et, h, eb, en) refl
+
+  pub data-reply : t ≡ false → b ≡ modeData false g (d .«block_length») → limited n b ≡ replyOf ModeSense d cmd (protectedOnly g)
+  unfolding replyOf
+  data-reply h eb = rw (← et, h, eb, en) refl
+
+pub mode-left : (d : Drive) (cmd b : List ℕ) (g : Bool) → b ≡ replyOf ModeSense d cmd (protectedOnly g) → (k : ℕ) → k ≡ length b → (r : Left) → r ≡ leftBy (carrying k (good d)) → r ≡ leftBy (act ModeSense d cmd [] (protectedOnly g))
+unfolding act
+mode-left d cmd b g e k ek r q = q ∙ rw (ek, e) refl
+
+-- any reply a, made as b, fits where a does, and is laid over the buffer
+pub reply-fits : (a b : List ℕ) (l : ℕ) → b ≡ a → length a ≤ l → length b ≤ l
+reply-fits a b l e h = rw e h
+
+pub reply-laid : (a b s t : List ℕ) → b ≡ a → t ≡ over s 0 b → t ≡ over s 0 a
+reply-laid a b s t e q = q ∙ ap (over s 0) e

@@ -1,0 +1,64 @@
+// REQUEST SENSE, READ BLOCK LIMITS and MODE SENSE: each answers with data, cut at an allocation where it has one.
+ghost use mathlib.Core.Path.{_≡_};
+ghost use mathlib.Core.List.{[]};
+ghost use Prim.Native.Nat.{_≤_};
+ghost use lib.ListN.{length};
+ghost use Rattle.words.specs.Words.{over};
+ghost use Rattle.codes.specs.declared.operation.Operation.the-variants.{RequestSense, ReadBlockLimits, ModeSense};
+ghost use Rattle.commands.specs.Act.{senseAsked, replyOf, act};
+ghost use Rattle.commands.specs.Act.{unattended as Act·unattended};
+ghost use Rattle.commands.specs.Call.{nothing};
+ghost use Rattle.commands.specs.Left.{leftBy, protectedOnly};
+use crate::data::block_limits;
+use crate::data::mode_data;
+use crate::data::mode_header;
+use commands::Left;
+use record::Drive;
+use sense::SENSE_LENGTH;
+
+// The sense that REQUEST SENSE answers: the waiting attention's, else the kept one.
+fn sense_asked(d: Drive) -> [u8; SENSE_LENGTH]
+    ensures { λ r. ⌜ r ≡ senseAsked d ⌝ }
+{
+    if d.attention == record::NO_ATTENTION {
+        return d.sense;
+    }
+    sense::of_attention(d.attention)
+}
+
+// REQUEST SENSE, with a receiving buffer that is long enough.
+pub fn request_sense(d: Drive, cmd: &[u8], received: &mut [u8]) -> Left
+    requires { ⌜ (5 ≤ length (now cmd)) × (length (replyOf RequestSense d (now cmd) nothing) ≤ length (now received)) ⌝ }
+    ensures { λ r. ⌜ (r ≡ leftBy (act RequestSense d (now (cmd .entry)) [] nothing)) × (now (received .exit) ≡ over (now (received .entry)) 0 (replyOf RequestSense d (now (cmd .entry)) nothing)) ⌝ }
+{
+    let asked = sense_asked(d);
+    let n = codes::allocation(cmd);
+    let carried = words::copy_limited(received, &asked, n as usize);
+    commands::good(commands::unattended(d), carried as u32)
+}
+
+// READ BLOCK LIMITS, with a receiving buffer that is long enough.
+pub fn read_block_limits(d: Drive, received: &mut [u8]) -> Left
+    requires { ⌜ length (replyOf ReadBlockLimits d [] nothing) ≤ length (now received) ⌝ }
+    ensures { λ r. ⌜ (r ≡ leftBy (act ReadBlockLimits d [] [] nothing)) × (now (received .exit) ≡ over (now (received .entry)) 0 (replyOf ReadBlockLimits d [] nothing)) ⌝ }
+{
+    let limits = block_limits();
+    words::copy_at(received, 0, &limits);
+    commands::good(d, commands::LIMITS_LENGTH as u32)
+}
+
+// MODE SENSE of a partition that is protected or not, with a receiving buffer that is long enough.
+pub fn mode_sense(d: Drive, cmd: &[u8], guarded: bool, received: &mut [u8]) -> Left
+    requires { ⌜ (5 ≤ length (now cmd)) × (length (replyOf ModeSense d (now cmd) (protectedOnly guarded)) ≤ length (now received)) ⌝ }
+    ensures { λ r. ⌜ (r ≡ leftBy (act ModeSense d (now (cmd .entry)) [] (protectedOnly guarded))) × (now (received .exit) ≡ over (now (received .entry)) 0 (replyOf ModeSense d (now (cmd .entry)) (protectedOnly guarded))) ⌝ }
+{
+    let n = codes::allocation(cmd);
+    if codes::dbd(cmd) {
+        let header = mode_header(guarded);
+        let carried = words::copy_limited(received, &header, n as usize);
+        return commands::good(d, carried as u32);
+    }
+    let data = mode_data(guarded, d.block_length);
+    let carried = words::copy_limited(received, &data, n as usize);
+    commands::good(d, carried as u32)
+}

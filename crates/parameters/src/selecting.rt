@@ -1,0 +1,51 @@
+// MODE SELECT: the list judged, and the block length that it sets.
+ghost use mathlib.Core.Path.{_≡_};
+ghost use mathlib.Core.Bool.{true};
+ghost use Prim.Native.Nat.{_≤_};
+ghost use lib.ListN.{length};
+ghost use Rattle.codes.specs.Fields.{allocationOf};
+ghost use Rattle.commands.specs.Parameters.{listLengthKnown};
+ghost use Rattle.commands.specs.Act.{selecting, withLength};
+ghost use Rattle.commands.specs.Left.{leftBy};
+use crate::list::is_list_right;
+use crate::list::new_length;
+use commands::Left;
+use record::Drive;
+
+// The drive with block length n.
+fn with_length(d: Drive, n: u32) -> Drive
+    ensures { λ r. ⌜ r ≡ withLength d n ⌝ }
+{
+    let mut e = d;
+    e.block_length = n;
+    e
+}
+
+// MODE SELECT, with as many bytes sent as it takes.
+pub fn select(d: Drive, cmd: &[u8], sent: &[u8]) -> Left
+    requires { ⌜ (5 ≤ length (now cmd)) × (listLengthKnown (allocationOf (now cmd)) ≡ true) × (allocationOf (now cmd) ≤ length (now sent)) ⌝ }
+    ensures { λ r. ⌜ r ≡ leftBy (selecting d (now (cmd .entry)) (now (sent .entry))) ⌝ }
+{
+    let n = codes::allocation(cmd);
+    if n == 0 {
+        return commands::good(d, 0);
+    }
+    if !is_list_right(n, sent) {
+        let told = sense::told(
+            false,
+            false,
+            false,
+            false,
+            sense::ILLEGAL_REQUEST,
+            0x26,
+            0x00,
+            0,
+            0,
+        );
+        return commands::checked(d, told, 0);
+    }
+    if n as usize == commands::WHOLE_LENGTH {
+        return commands::good(with_length(d, new_length(sent)), n as u32);
+    }
+    commands::good(d, n as u32)
+}

@@ -1,4 +1,0 @@
-pub mod Going
-pub mod Down
-pub mod Sent
-pub mod Reading
