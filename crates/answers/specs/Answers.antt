@@ -50,12 +50,12 @@ firstOf [] = 0
 firstOf (t ∷ ts) = cond (t .0) (t .1) (firstOf ts)
 
 -- all that a service leaves which may alter one lent slice: its answer, and the slice
-pub record Left : Type 0 where
+pub record Settled : Type 0 where
   pub answer : Answer
   pub lent : List ℕ
 
-abbrev pub left : Answer → List ℕ → Left
-left a s = record { answer = a; lent = s }
+abbrev pub settled : Answer → List ℕ → Settled
+settled a s = record { answer = a; lent = s }
 
 -- bits 0 to 31 the bytes carried, 32 to 34 the refusal, bit 35 set for the status 02h
 unfoldable pub packed : Answer → ℕ

@@ -10,12 +10,12 @@ use Rattle.words.specs.Words.{over}
 use Rattle.answers.specs.declared.Answer.{Answer}
 use Rattle.answers.specs.Answers.{commandShort, recordFault, refused}
 use Rattle.image.specs.Image.{count, protected, sound, objects}
-use Rattle.image.specs.Changes.{occurs, cleared}
+use Rattle.changes.specs.Changes.{occurs, cleared}
 use Rattle.record.specs.declared.drive.Drive.{Drive}
 use Rattle.record.specs.Record.{decodeOf, encodeOf, wellFormed, wellRecord}
 use Rattle.codes.specs.Codes.{codeOf, tooShort, operationOf}
 use Rattle.codes.specs.declared.operation.Operation.{Operation}
-use Rattle.cartridge.specs.Mount.{absent}
+use Rattle.image.specs.Image.{absent}
 use Rattle.commands.specs.Stop.{Stop, refuse}
 use Rattle.commands.specs.Kinds.{locates}
 use Rattle.commands.specs.Act.{Seen, targetOf}

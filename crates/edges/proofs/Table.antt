@@ -6,8 +6,8 @@ use Rattle.words.specs.Signed.{signed, wrapped}
 use Rattle.objects.specs.Object.{bytesIn, filemarksIn}
 use Rattle.objects.specs.Movement as M
 use Rattle.image.specs.Image.{count, flags, protected, directory, size, entry, topBit, low31, endAt, follows, ordered, rightLength, sound, objectAt, upto, objects}
-use Rattle.image.specs.Changes.{retitle, entryOf, enter, occur, occurs, cleared, blank, protect, reflag}
-use Rattle.image.proofs.Example.{E}
+use Rattle.changes.specs.Changes.{retitle, entryOf, enter, occur, occurs, cleared, blank, protect, reflag}
+use Rattle.image.specs.Example.{E}
 use Rattle.sense.specs.Sense.{senseBytes, reports, told, emptySense, attentionSense}
 use Rattle.record.specs.Record.{decodeOf, encodeOf, attentionKnown, emptyHanded, placed, wellFormed, wellRecord, withSense, unloaded, loadedAnew}
 use Rattle.codes.specs.Codes.{tooShort, inMasks, masksHold}

@@ -8,8 +8,8 @@ use Rattle.answers.specs.Answers.{answered}
 use Rattle.words.specs.Words.{bytes, over, zeros}
 use Rattle.objects.specs.Object.{filemark, block}
 use Rattle.objects.specs.Events.{Event, put}
-use Rattle.image.specs.Changes.{occurs, blank}
-use Rattle.image.proofs.Example.{E}
+use Rattle.changes.specs.Changes.{occurs, blank}
+use Rattle.image.specs.Example.{E}
 use Rattle.commands.specs.Call.{lent, Result, result, commandCall}
 
 pub record Case : Type 0 where

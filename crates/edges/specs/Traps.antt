@@ -10,8 +10,8 @@ use Rattle.answers.specs.declared.Answer.{Answer}
 use Rattle.answers.specs.Answers.{refused, answered}
 use Rattle.objects.specs.Object.{block}
 use Rattle.objects.specs.Events.{put}
-use Rattle.image.specs.Changes.{occurs, protect}
-use Rattle.image.proofs.Example.{E}
+use Rattle.changes.specs.Changes.{occurs, protect}
+use Rattle.image.specs.Example.{E}
 use Rattle.commands.specs.Call.{Lent, lent, Result, result, commandCall}
 use Rattle.edges.specs.Cases.{line, nothingKept, six, blank64, ten}
 

@@ -15,7 +15,7 @@ use Rattle.objects.specs.Object.{Object, block, bytesIn}
 use Rattle.objects.specs.Room.{trailerLength, roomOf, zoneIn}
 use Rattle.objects.specs.Events.{Event, happens}
 use Rattle.image.specs.Image.{count, objects}
-use Rattle.image.specs.Changes.{occurs}
+use Rattle.changes.specs.Changes.{occurs}
 use Rattle.image.proofs.Facts.{Sound}
 use Rattle.image.proofs.Objects.{length-objects}
 use Rattle.record.specs.declared.drive.Drive.{Drive}

@@ -10,10 +10,11 @@ use borrow.Author.Tests.{not-true, eqb-true, eqb-false}
 use lib.Dec.{eqb}
 use lib.ListN.{length, take, length-take}
 use Rattle.answers.specs.declared.Answer.{Answer}
-use Rattle.answers.specs.Answers.{recordFault, alreadyLoaded, unsoundImage, wrongLength, refused, done, left}
+use Rattle.answers.specs.Answers.{recordFault, alreadyLoaded, unsoundImage, wrongLength, refused, done, settled}
 use Rattle.objects.specs.Events.{happen, happens}
 use Rattle.image.specs.Image.{rightLength, sound, count, objects}
-use Rattle.image.specs.Services.{faultOf, protectCall}
+use Rattle.image.specs.Image.{faultOf}
+use Rattle.house.specs.Images.{protectCall}
 use Rattle.image.proofs.Facts.{Sound, sound-parts}
 use Rattle.image.proofs.Tests.{both}
 use Rattle.image.proofs.Objects.{length-objects}
@@ -22,7 +23,8 @@ use Rattle.record.specs.Record.{attentionKnown, decodeOf, encodeOf, wellRecord,
 use Rattle.codes.specs.declared.operation.Operation.{Operation}
 use Rattle.codes.specs.declared.operation.Operation.the-variants.{TestUnitReady, Rewind, RequestSense, ReadBlockLimits, Read, Write, WriteFilemarks, Space, ModeSelect, Erase, ModeSense, LoadUnload, Locate, ReadPosition, NotServed}
 use Rattle.codes.specs.Codes.{codeOf, operationOf}
-use Rattle.cartridge.specs.Mount.{absent, partitionsOf, rightLengths, bothSound, mountFault, mountCall}
+use Rattle.image.specs.Image.{absent}
+use Rattle.house.specs.Mount.{partitionsOf, rightLengths, bothSound, mountFault, mountCall}
 use Rattle.commands.specs.Stop.{refuse, first}
 use Rattle.commands.specs.Kinds.{erases, needsCartridge, writes}
 use Rattle.commands.specs.Act.{Seen, at, targetOf, locating, goesDown, act, eventsOf}
@@ -191,7 +193,7 @@ unfolding mountCall
 mount-faultless rec c h = go (eqb (mountFault rec (c .part0) (c .part1)) 0) refl
   where
     go : (t : Bool) → eqb (mountFault rec (c .part0) (c .part1)) 0 ≡ t
-        → NoFault ((cond t (left done (encodeOf (mountedDrive (partitionsOf (c .part1))))) (left (refused (mountFault rec (c .part0) (c .part1))) rec)) .lent) c
+        → NoFault ((cond t (settled done (encodeOf (mountedDrive (partitionsOf (c .part1))))) (settled (refused (mountFault rec (c .part0) (c .part1))) rec)) .lent) c
     go true e = mounted-faultless (c .part0) (c .part1) (mount-sound rec (c .part0) (c .part1) (eqb-true (mountFault rec (c .part0) (c .part1)) 0 e))
     go false e = h
 
@@ -200,8 +202,8 @@ unfolding mountCall
 done-faultless rec c h = go (eqb (mountFault rec (c .part0) (c .part1)) 0) refl h
   where
     go : (t : Bool) → eqb (mountFault rec (c .part0) (c .part1)) 0 ≡ t
-        → (cond t (left done (encodeOf (mountedDrive (partitionsOf (c .part1))))) (left (refused (mountFault rec (c .part0) (c .part1))) rec)) .answer ≡ done
-        → NoFault ((cond t (left done (encodeOf (mountedDrive (partitionsOf (c .part1))))) (left (refused (mountFault rec (c .part0) (c .part1))) rec)) .lent) c
+        → (cond t (settled done (encodeOf (mountedDrive (partitionsOf (c .part1))))) (settled (refused (mountFault rec (c .part0) (c .part1))) rec)) .answer ≡ done
+        → NoFault ((cond t (settled done (encodeOf (mountedDrive (partitionsOf (c .part1))))) (settled (refused (mountFault rec (c .part0) (c .part1))) rec)) .lent) c
     go true e a = mounted-faultless (c .part0) (c .part1) (mount-sound rec (c .part0) (c .part1) (eqb-true (mountFault rec (c .part0) (c .part1)) 0 e))
     go false e a = absurd (eqb-false (mountFault rec (c .part0) (c .part1)) 0 e (ap (λ (y : Answer). y .refusal) a))
 

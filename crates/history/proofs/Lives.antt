@@ -9,13 +9,14 @@ use Rattle.words.specs.Signed.{signed, wrapped}
 use Rattle.objects.specs.Object.{bytesIn, filemarksIn}
 use Rattle.objects.specs.Movement as M
 use Rattle.image.specs.Image.{count, flags, protected, directory, size, entry, topBit, low31, endAt, follows, ordered, rightLength, sound, objectAt, upto, objects}
-use Rattle.image.specs.Changes.{retitle, entryOf, enter, occur, occurs, cleared, blank, protect, reflag}
-use Rattle.image.specs.Services.{blankCall, faultOf, protectCall}
+use Rattle.changes.specs.Changes.{retitle, entryOf, enter, occur, occurs, cleared, blank, protect, reflag}
+use Rattle.house.specs.Images.{blankCall, protectCall}
+use Rattle.image.specs.Image.{faultOf}
 use Rattle.sense.specs.Sense.{senseBytes, partsOf, reports, told, emptySense, attentionSense}
 use Rattle.record.specs.Record.{decodeOf, encodeOf, attentionKnown, emptyHanded, placed, wellFormed, wellRecord, freshDrive, mountedDrive, withSense, unloaded, loadedAnew}
 use Rattle.codes.specs.Codes.{tooShort, inMasks, masksHold}
 use Rattle.codes.specs.Fields.{fixedOf, siliOf, transferOf, spaceCodeOf, spaceCountOf, longOf, loadOf, pfOf, allocationOf}
-use Rattle.cartridge.specs.Mount.{rightLengths, bothSound, mountFault, mountCall}
+use Rattle.house.specs.Mount.{rightLengths, bothSound, mountFault, mountCall}
 use Rattle.commands.specs.Parameters.{listLengthKnown, headerRight, descriptorRight, listRight}
 use Rattle.objects.specs.Transfer.{blocksOf, marksOf, fitting, putFrom}
 use Rattle.commands.specs.Stop.{first}

@@ -15,7 +15,7 @@ use Rattle.objects.specs.Events.{Clear, Stands}
 use Rattle.image.specs.Image.{sound, objects}
 use Rattle.image.proofs.Facts.{sound-of}
 use Rattle.record.specs.Record.{noAttention, decodeOf}
-use Rattle.cartridge.specs.Mount.{mountCall}
+use Rattle.house.specs.Mount.{mountCall}
 use Rattle.history.specs.History.{Slot, number, Cartridge, part, MadeBlank, together, Call, commanded, ends, past}
 use Rattle.history.specs.Answered.{Answered}
 use Rattle.history.specs.Demand3.{NoFault, Mounted, AtBeginning, Reading, object, readings, meetings, Demand3, locateFirst, rewind, Reached}

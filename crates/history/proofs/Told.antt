@@ -1,4 +1,4 @@
--- Demand 3, first half: through any calls, what stands on a partition is what the events of its past left standing.
+-- Demand 3, first half: through any calls, what stands on a partition is what the events of its past settled standing.
 -- Assumes nothing.
 use Prim.Native.Nat.{ℕ}
 use native.Mathlib.Omega.{arith}
@@ -11,15 +11,16 @@ use borrow.Author.Tests.{ne-eqb}
 use lib.Dec.{eqb}
 use lib.ListN.{getElem?}
 use Rattle.answers.specs.declared.Answer.{Answer}
-use Rattle.answers.specs.Answers.{left, refused, done, wrongLength}
+use Rattle.answers.specs.Answers.{settled, refused, done, wrongLength}
 use Rattle.objects.specs.Object.{Object}
 use Rattle.objects.specs.Events.{Event, Clear, Stands, happens, Lawful}
 use Rattle.objects.proofs.Standing.{stand, stand-blank, happens-append, lawful-append}
 use Rattle.image.specs.Image.{rightLength, sound, objects}
-use Rattle.image.specs.Changes.{blank, protect}
-use Rattle.image.specs.Services.{blankCall, protectCall, faultOf}
+use Rattle.changes.specs.Changes.{blank, protect}
+use Rattle.house.specs.Images.{blankCall, protectCall}
+use Rattle.image.specs.Image.{faultOf}
 use Rattle.image.proofs.Facts.{Sound, sound-parts, right-parts}
-use Rattle.image.proofs.Trailer.{blanks, protects}
+use Rattle.changes.proofs.Trailers.{blanks, protects}
 use Rattle.record.specs.Record.{decodeOf, withSense}
 use Rattle.codes.specs.Codes.{codeOf, operationOf}
 use Rattle.commands.specs.Call.{lent, Result, result, commandCall}
@@ -31,7 +32,7 @@ use Rattle.history.proofs.Acted.{acts, acts-turned, acts-caused}
 
 -- ---- a command, on the partition of each slot
 
--- what is to be shown of the slices p0 and p1 and of what the call left
+-- what is to be shown of the slices p0 and p1 and of what the call settled
 abbrev pub Shown : Slot → List ℕ → List ℕ → List ℕ → List ℕ → List ℕ → Result → Type 0
 Shown s rec cmd p0 p1 sent r = Turned (cond (eqb (decodeOf rec .current) (number s)) (caused rec cmd sent r) []) (part s (cartridge p0 p1)) (part s (slicesLeft r))
 
@@ -62,7 +63,7 @@ pub protect-turned : (on : Bool) (p : List ℕ) → Sound p → Turned [] p ((pr
 unfolding protectCall happens Lawful
 protect-turned on p k = go (eqb (faultOf p) 0)
   where
-    go : (t : Bool) → Turned [] p ((cond t (left done (protect on p)) (left (refused (faultOf p)) p)) .lent)
+    go : (t : Bool) → Turned [] p ((cond t (settled done (protect on p)) (settled (refused (faultOf p)) p)) .lent)
     go true = let x = protects on p k in record { sound = x .sound; makes = x .same-objects; lawful = tt }
     go false = record { sound = k; makes = refl; lawful = tt }
 
@@ -114,7 +115,7 @@ past-append s [] ys c = refl
 past-append s (x ∷ xs) ys c =
     ap (λ (es : List Event). events s x c ++ es) (past-append s xs ys (after x c)) ∙ sym (append-assoc (events s x c) (past s xs (after x c)) (past s ys (ends xs (after x c))))
 
--- from any sound partition: what the events left standing, or what stood before and they are clear of
+-- from any sound partition: what the events settled standing, or what stood before and they are clear of
 pub stood : (s : Slot) (c : Cartridge) → sound (part s c) ≡ true → (xs : List Call) (k : ℕ) (o : Object)
     → (getElem? (objects (part s (ends xs c))) k ≡ some o) ↔ (Stands (past s xs c) k o ⊎ ((getElem? (objects (part s c)) k ≡ some o) × Clear k (past s xs c)))
 stood s c h xs k o =
@@ -125,8 +126,8 @@ pub blanked : (p : List ℕ) → MadeBlank p → Sound p × (objects p ≡ [])
 unfolding blankCall
 blanked p m = go (rightLength (m .lent)) refl (m .answered) (m .left)
   where
-    go : (t : Bool) → rightLength (m .lent) ≡ t → (cond (not t) (left (refused wrongLength) (m .lent)) (left done (blank (m .lent)))) .answer ≡ done
-        → p ≡ (cond (not t) (left (refused wrongLength) (m .lent)) (left done (blank (m .lent)))) .lent → Sound p × (objects p ≡ [])
+    go : (t : Bool) → rightLength (m .lent) ≡ t → (cond (not t) (settled (refused wrongLength) (m .lent)) (settled done (blank (m .lent)))) .answer ≡ done
+        → p ≡ (cond (not t) (settled (refused wrongLength) (m .lent)) (settled done (blank (m .lent)))) .lent → Sound p × (objects p ≡ [])
     go true e a l =
         let b = right-parts (m .lent) e in
         let x = blanks (m .lent) (b .0) (b .1) in

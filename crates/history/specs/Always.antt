@@ -4,7 +4,7 @@
 use Prim.Native.Nat.{ℕ}
 use mathlib.Core.Bool.{Bool}
 use mathlib.Core.List.{List, [], _∷_}
-use Rattle.cartridge.specs.Mount.{mountCall}
+use Rattle.house.specs.Mount.{mountCall}
 use Rattle.history.specs.History.{Slot, Cartridge, together, Call, command, mount, protection, commanded, after, ends}
 use Rattle.history.specs.Demand3.{NoFault}
 

@@ -9,7 +9,7 @@ use lib.ListN.{take}
 use Rattle.answers.specs.declared.Answer.{Answer}
 use Rattle.answers.specs.Answers.{done}
 use Rattle.objects.specs.Events.{Event, cut}
-use Rattle.image.specs.Services.{blankCall, protectCall}
+use Rattle.house.specs.Images.{blankCall, protectCall}
 use Rattle.record.specs.Record.{decodeOf}
 use Rattle.codes.specs.Codes.{codeOf, operationOf}
 use Rattle.objects.specs.Transfer.{putFrom}

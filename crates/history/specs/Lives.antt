@@ -11,7 +11,7 @@ use Rattle.words.specs.Words.{bytes, zeros}
 use Rattle.objects.specs.Object.{Object, filemark, block, largestBlock}
 use Rattle.objects.specs.Events.{Event, put, cut}
 use Rattle.image.specs.Image.{objects}
-use Rattle.image.specs.Changes.{blank}
+use Rattle.changes.specs.Changes.{blank}
 use Rattle.record.specs.Record.{encodeOf, freshDrive}
 use Rattle.history.specs.History.{Slot, slot0, slot1, Cartridge, cartridge, part, MadeBlank, together, alone, Call, command, mount, protection, ends, past}
 use Rattle.history.specs.Demand3.{Mounted, AtBeginning, Reading, object, endOfData, readings, rewind}

@@ -14,7 +14,8 @@ use Rattle.answers.specs.Answers.{unsoundImage, wrongLength}
 use Rattle.image.specs.declared.part.Part.{Part}
 use Rattle.objects.specs.Room.{trailerLength, entryLength}
 use Rattle.image.specs.Image.{leastLength, mostLength, flagBits, count, flags, directory, size, entry, topBit, endAt, ordered, rightLength, sound}
-use Rattle.image.specs.Services.{faultOf, emptyPart, partOf, shown}
+use Rattle.image.specs.Image.{faultOf}
+use Rattle.image.specs.Parts.{emptyPart, partOf, shown}
 use Rattle.image.specs.Within.{Within}
 use Rattle.image.proofs.Tests.{cases}
 use Rattle.image.proofs.Facts.{Sound, right-parts, right-of, sound-parts, ends-in, ends-grow, ordered-below}

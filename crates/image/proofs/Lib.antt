@@ -1,14 +1,5 @@
-pub mod Example
 pub mod Tests
 pub mod Facts
-pub mod Alike
 pub mod Objects
-pub mod Retitled
-pub mod Erased
-pub mod Placed
-pub mod Obeys
-pub mod Trailer
-pub mod Freed
 pub mod Judged
-pub mod Down
 pub mod Lies

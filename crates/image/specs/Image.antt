@@ -1,12 +1,13 @@
 -- The partition image (01, "Partition image"), over the list of its bytes, in 01's order.
 -- Assumes nothing: these are definitions.
 use Prim.Native.Nat.{ℕ, zero, suc, _+_, _-_, _*_, _/_, _%_, _^_}
-use mathlib.Core.Bool.{Bool, true, cond, _&&_}
+use mathlib.Core.Bool.{Bool, true, cond, not, _&&_}
 use mathlib.Core.List.{List, [], _∷_, _++_}
 use lib.ListN.{length}
 use lib.Seq.{slice}
 use lib.Dec.{leb, ltb, eqb}
 use Rattle.words.specs.Words.{be}
+use Rattle.answers.specs.Answers.{unsoundImage, wrongLength}
 use Rattle.objects.specs.Object.{Object, filemark, block, largestBlock}
 use Rattle.objects.specs.Room.{trailerLength, entryLength, usedOf, roomOf, fitsIn, zoneIn}
 
@@ -23,19 +24,28 @@ mostLength = 1073741824
 abbrev pub flagBits : ℕ
 flagBits = 1
 
--- ---- the trailer: N, flags, D, L, four bytes each
+-- ---- the trailer: N, flags, D, L, four bytes each, so N stands at its start, and the others so far from the image's end
+
+abbrev pub flagsBack : ℕ
+flagsBack = 12
+
+abbrev pub directoryBack : ℕ
+directoryBack = 8
+
+abbrev pub sizeBack : ℕ
+sizeBack = 4
 
 unfoldable pub count : List ℕ → ℕ
 count s = be 4 s (length s - trailerLength)
 
 unfoldable pub flags : List ℕ → ℕ
-flags s = be 4 s (length s - 12)
+flags s = be 4 s (length s - flagsBack)
 
 unfoldable pub directory : List ℕ → ℕ
-directory s = be 4 s (length s - 8)
+directory s = be 4 s (length s - directoryBack)
 
 unfoldable pub size : List ℕ → ℕ
-size s = be 4 s (length s - 4)
+size s = be 4 s (length s - sizeBack)
 
 -- flag bit 0
 unfoldable pub protected : List ℕ → Bool
@@ -87,6 +97,14 @@ sound s =
     && eqb (directory s + entryLength * count s + trailerLength) (length s)
     && ordered s (count s)
     && leb (endAt s (count s)) (directory s)
+
+-- the two refusals of an image: 7 for its length, then 6 where it is not sound; 0 for none
+unfoldable pub faultOf : List ℕ → ℕ
+faultOf s = cond (not (rightLength s)) wrongLength (cond (not (sound s)) unsoundImage 0)
+
+-- "an empty second slice is absent"
+abbrev pub absent : List ℕ → Bool
+absent s = eqb (length s) 0
 
 -- ---- room, of an image
 unfoldable pub used : List ℕ → ℕ → ℕ

@@ -1,4 +1,4 @@
 pub mod Image
-pub mod Changes
-pub mod Services
 pub mod Within
+pub mod Parts
+pub mod Example

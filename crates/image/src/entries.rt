@@ -3,12 +3,19 @@ ghost use mathlib.Core.Path.{_≡_};
 ghost use Prim.Native.Nat.{_+_, _*_, _≤_, _<_, _^_};
 ghost use lib.ListN.{length};
 ghost use Rattle.objects.specs.Room.{trailerLength, entryLength};
-ghost use Rattle.image.specs.Image.{mostLength, count, flags, entry, topBit, low31, endAt, room, fits, zone, filemarksBefore};
+ghost use Rattle.image.specs.Image.{mostLength, count, flags, protected, entry, topBit, low31, endAt, room, fits, zone, filemarksBefore};
 use words::be32_at;
 
-// The trailer's length, and an entry's.
+// The trailer's length, and how far from the image's end its fields stand: N at its start, then flags, D, L.
 pub const TRAILER: usize = 16;
 
+pub const FLAGS: usize = 12;
+
+pub const DIRECTORY: usize = 8;
+
+pub const SIZE: usize = 4;
+
+// An entry's length.
 pub const ENTRY: usize = 4;
 
 // The share of the image that the early warning leaves.
@@ -27,7 +34,15 @@ pub fn flags_of(s: &[u8]) -> u32
     requires { ⌜ trailerLength ≤ length (now s) ⌝ }
     ensures { λ r. ⌜ r ≡ flags (now (s .entry)) ⌝ }
 {
-    be32_at(s, s.len() - 12)
+    be32_at(s, s.len() - FLAGS)
+}
+
+// Whether it is protected: flag bit 0.
+pub fn is_protected(s: &[u8]) -> bool
+    requires { ⌜ trailerLength ≤ length (now s) ⌝ }
+    ensures { λ r. ⌜ r ≡ protected (now (s .entry)) ⌝ }
+{
+    flags_of(s) % 2 == 1
 }
 
 // The entry of object i.

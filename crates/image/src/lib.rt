@@ -1,21 +1,20 @@
-// The partition image: whether it is sound, where its objects lie, and what puts, cuts, blanking and protection write.
-mod change;
+// The partition image read: whether it is sound, its trailer and directory, and where its objects lie.
 mod entries;
 mod part;
 mod sound;
 
-pub use change::cut;
-pub use change::cut_clearing;
-pub use change::make_blank;
-pub use change::put_block;
-pub use change::put_filemark;
-pub use change::set_protection;
+pub use entries::DIRECTORY;
+pub use entries::ENTRY;
+pub use entries::FLAGS;
+pub use entries::SIZE;
+pub use entries::TRAILER;
 pub use entries::count_of;
 pub use entries::end_at;
 pub use entries::filemarks_before;
 pub use entries::flags_of;
 pub use entries::in_zone;
 pub use entries::is_filemark;
+pub use entries::is_protected;
 pub use entries::object_fits;
 pub use entries::room_at;
 pub use part::Part;

@@ -2,7 +2,7 @@
 ghost use mathlib.Core.Path.{_≡_};
 ghost use Prim.Native.Nat.{_+_, _≤_};
 ghost use lib.ListN.{length};
-ghost use Rattle.image.specs.Services.{partOf, shown, placed};
+ghost use Rattle.image.specs.Parts.{partOf, shown, placeOf};
 ghost use Rattle.image.specs.Within.{Within};
 use crate::entries::count_of;
 use crate::entries::end_at;
@@ -38,7 +38,7 @@ pub fn block_part(s: &[u8], i: usize) -> Part
 
 // The very part of s that holds block i.
 pub fn block_at<'a>(s: &'a [u8], i: usize) -> &'a [u8]
-    ensures { λ r. ⌜ (now r ≡ shown (now (s .entry)) (partOf (now (s .entry)) i)) × (r .ptr ≡ placed (s .entry .ptr) (partOf (now (s .entry)) i)) ⌝ }
+    ensures { λ r. ⌜ (now r ≡ shown (now (s .entry)) (partOf (now (s .entry)) i)) × (r .ptr ≡ placeOf (s .entry .ptr) (partOf (now (s .entry)) i)) ⌝ }
 {
     let p = block_part(s, i);
     let start = p.start as usize;

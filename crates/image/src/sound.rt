@@ -4,8 +4,10 @@ ghost use Prim.Native.Nat.{_+_, _*_, _≤_};
 ghost use lib.ListN.{length};
 ghost use Rattle.objects.specs.Room.{trailerLength, entryLength};
 ghost use Rattle.image.specs.Image.{follows, ordered, rightLength, sound};
-ghost use Rattle.image.specs.Services.{faultOf};
+ghost use Rattle.image.specs.Image.{faultOf};
+use crate::entries::DIRECTORY;
 use crate::entries::ENTRY;
+use crate::entries::SIZE;
 use crate::entries::TRAILER;
 use crate::entries::count_of;
 use crate::entries::end_at;
@@ -69,13 +71,13 @@ pub fn is_sound(s: &[u8]) -> bool
         return false;
     }
     let len = s.len();
-    if be32_at(s, len - 4) as usize != len {
+    if be32_at(s, len - SIZE) as usize != len {
         return false;
     }
     if flags_of(s) >> FLAG_BITS != 0 {
         return false;
     }
-    let d = be32_at(s, len - 8);
+    let d = be32_at(s, len - DIRECTORY);
     let n = count_of(s) as usize;
     if d as usize + ENTRY * n + TRAILER != len {
         return false;

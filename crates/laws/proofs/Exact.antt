@@ -13,7 +13,7 @@ use lib.Dec.{eqb}
 use lib.ListN.{length}
 use Rattle.words.proofs.Laws.{over-nil}
 use Rattle.answers.specs.Answers.{commandShort, recordFault, refused}
-use Rattle.image.specs.Changes.{occurs}
+use Rattle.changes.specs.Changes.{occurs}
 use Rattle.record.specs.declared.drive.Drive.{Drive}
 use Rattle.record.specs.Record.{decodeOf, wellRecord}
 use Rattle.codes.specs.declared.operation.Operation.{Operation}

@@ -20,7 +20,7 @@ use Rattle.record.specs.declared.drive.Drive.{Drive}
 use Rattle.record.specs.Record.{recordLength, decodeOf, encodeOf, attentionKnown, emptyHanded, placed, wellFormed, wellRecord, withSense}
 use Rattle.record.proofs.RoundTrip.{decode-encode}
 use Rattle.record.proofs.Judged.{record-parts}
-use Rattle.cartridge.specs.Mount.{absent}
+use Rattle.image.specs.Image.{absent}
 use Rattle.codes.specs.declared.operation.Operation.{Operation}
 use Rattle.codes.specs.Fields.{changesPartition, partitionOf}
 use Rattle.commands.specs.Kinds.{locates}

@@ -15,7 +15,7 @@ use Rattle.objects.specs.Object.{Object, block, dataOf, bytesIn, largestBlock}
 use Rattle.objects.specs.Room.{trailerLength, entryLength, roomOf, fitsIn}
 use Rattle.objects.specs.Events.{Event, put, cut, happen, happens}
 use Rattle.objects.proofs.Count.{bytes-snoc}
-use Rattle.image.proofs.Placed.{Kept}
+use Rattle.changes.proofs.Placed.{Kept}
 use Rattle.record.specs.declared.drive.Drive.{Drive}
 use Rattle.codes.specs.declared.operation.Operation.{Operation}
 use Rattle.codes.specs.declared.operation.Operation.the-variants.{Write, WriteFilemarks}
@@ -23,7 +23,7 @@ use Rattle.codes.specs.Codes.{codeOf, operationOf}
 use Rattle.codes.specs.Fields.{fixedOf, transferOf}
 use Rattle.objects.specs.Transfer.{blocksOf, fitting, putFrom}
 use Rattle.objects.proofs.Fitting.{fitting-more, fitting-none}
-use Rattle.image.proofs.Down.{AllKept, marks-kept, blocks-kept}
+use Rattle.changes.proofs.Down.{AllKept, marks-kept, blocks-kept}
 use Rattle.commands.specs.Stop.{Stop, refuse, attend, fault, first}
 use Rattle.commands.specs.Kinds.{needsCartridge}
 use Rattle.commands.specs.Act.{Seen, offered, goesDown, eventsOf}

@@ -10,11 +10,11 @@ use Rattle.objects.specs.Object.{dataOf, bytesIn}
 use Rattle.objects.specs.Room.{trailerLength}
 use Rattle.objects.specs.Events.{Event, put, cut, happens, Lawful}
 use Rattle.image.specs.Image.{count, endAt, objects}
-use Rattle.image.specs.Changes.{occur, occurs, cleared}
+use Rattle.changes.specs.Changes.{occur, occurs, cleared}
 use Rattle.image.proofs.Facts.{Sound, room-fits}
 use Rattle.image.proofs.Objects.{length-objects, end-bytes}
-use Rattle.image.proofs.Obeys.{Admits, AdmitsAll, Made, made, obeys}
-use Rattle.image.proofs.Freed.{frees}
+use Rattle.changes.proofs.Obeys.{Admits, AdmitsAll, Made, made, obeys}
+use Rattle.changes.proofs.Freed.{frees}
 use Rattle.commands.specs.Step.{Stepped}
 use Rattle.commands.specs.Call.{laidOut}
 use Rattle.laws.proofs.Goes.{Goes, GoAll}

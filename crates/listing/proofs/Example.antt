@@ -5,8 +5,8 @@ use mathlib.Core.List.{[], _∷_}
 use lib.ListN.{replicate}
 use Rattle.words.specs.Words.{be, bytes}
 use Rattle.image.specs.Image.{count, flags, directory, size, entry, topBit, low31, endAt, follows, ordered, rightLength, sound, used, room, objectAt, upto, objects}
-use Rattle.image.specs.Services.{faultOf}
-use Rattle.image.proofs.Example.{E}
+use Rattle.image.specs.Image.{faultOf}
+use Rattle.image.specs.Example.{E}
 use Rattle.listing.specs.Text.{digits, decimal, wordObjects, wordFree, wordBlock, wordFilemark, wordRefused}
 use Rattle.listing.specs.Listing.{refusal, line, lines, heading, listing}
 

@@ -10,7 +10,7 @@ use lib.Dec.{leb}
 use borrow.Author.Tests.{le-leb, lt-leb, leb-true}
 use Rattle.answers.specs.Answers.{wrongLength, unsoundImage}
 use Rattle.image.specs.Image.{rightLength, sound}
-use Rattle.image.specs.Services.{faultOf}
+use Rattle.image.specs.Image.{faultOf}
 use Rattle.image.proofs.Facts.{Sound, sound-parts}
 use Rattle.listing.specs.Text.{decimal}
 use Rattle.listing.specs.Listing.{mostInput, refusal}

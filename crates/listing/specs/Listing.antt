@@ -8,7 +8,7 @@ use lib.Dec.{leb, eqb}
 use Rattle.answers.specs.Answers.{wrongLength}
 use Rattle.objects.specs.Object.{Object, filemark, block}
 use Rattle.image.specs.Image.{count, room, objects}
-use Rattle.image.specs.Services.{faultOf}
+use Rattle.image.specs.Image.{faultOf}
 use Rattle.listing.specs.Text.{decimal, wordObjects, wordFree, wordBlock, wordFilemark, wordRefused, newline}
 
 -- "input above 65,536 bytes counts as 7"

@@ -10,7 +10,6 @@ ghost use Rattle.commands.specs.Step.{acted};
 ghost use Rattle.commands.specs.Call.{seenOf, laidOut, nothing};
 ghost use Rattle.commands.specs.Left.{leftBy, protectedOnly};
 ghost use Rattle.step.specs.Ready.{Ready, ReadyApart};
-use crate::partitions::is_protected;
 use codes::Operation;
 use commands::Left;
 use record::Drive;
@@ -75,6 +74,6 @@ pub fn act_on(
         Operation::RequestSense
         | Operation::ReadBlockLimits
         | Operation::ModeSelect
-        | Operation::ModeSense => act_apart(o, d, cmd, is_protected(s), sent, received),
+        | Operation::ModeSense => act_apart(o, d, cmd, image::is_protected(s), sent, received),
     }
 }

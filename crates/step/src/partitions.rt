@@ -1,21 +1,9 @@
 // What is looked at of the partitions before a command acts.
 ghost use mathlib.Core.Path.{_≡_};
 ghost use mathlib.Core.Bool.{true};
-ghost use Prim.Native.Nat.{_≤_};
-ghost use lib.ListN.{length};
-ghost use Rattle.objects.specs.Room.{trailerLength};
-ghost use Rattle.image.specs.Image.{protected};
 ghost use Rattle.record.specs.Record.{wellFormed};
 ghost use Rattle.commands.specs.Call.{inserted};
 use record::Drive;
-
-// Whether a partition is protected.
-pub fn is_protected(s: &[u8]) -> bool
-    requires { ⌜ trailerLength ≤ length (now s) ⌝ }
-    ensures { λ r. ⌜ r ≡ protected (now (s .entry)) ⌝ }
-{
-    image::flags_of(s) % 2 == 1
-}
 
 // Number 4 beyond the record: while loaded, the partitions lent are those that the drive tells of, each sound, with the position in the current one. The
 // one pass over each.

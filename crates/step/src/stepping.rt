@@ -12,7 +12,6 @@ ghost use Rattle.step.specs.Served.{outcomeOf, guardedNow, answerOf};
 use crate::acting::act_apart;
 use crate::acting::act_on;
 use crate::partitions::is_inserted;
-use crate::partitions::is_protected;
 use answers::Answer;
 use codes::Operation;
 use commands::Left;
@@ -77,9 +76,9 @@ fn is_guarded(d: Drive, p0: &[u8], p1: &[u8]) -> bool
         return false;
     }
     if d.current == 1 {
-        return is_protected(p1);
+        return image::is_protected(p1);
     }
-    is_protected(p0)
+    image::is_protected(p0)
 }
 
 // The act of a command that no test has stopped.

@@ -1,3 +1,2 @@
-pub mod Cases
 pub mod Commanded
-pub mod Determined
+pub mod Numbered

@@ -2,12 +2,12 @@
 -- Assumes nothing: these are definitions.
 use Prim.Native.Nat.{ℕ}
 use mathlib.Core.List.{List}
-use Rattle.answers.specs.Answers.{Left, packed, packedPart}
-use Rattle.image.specs.Services.{viewOf}
+use Rattle.answers.specs.Answers.{Settled, packed, packedPart}
+use Rattle.house.specs.Views.{viewOf}
 use Rattle.commands.specs.Call.{Lent, Result}
 
 -- a service that may alter one slice: the number returned, and the slice
-abbrev pub numbered : Left → ℕ × List ℕ
+abbrev pub numbered : Settled → ℕ × List ℕ
 numbered o = (packed (o .answer), o .lent)
 
 -- the view: start and length of the part, 0 if empty

@@ -12,10 +12,10 @@ use Rattle.objects.specs.Object.{Object, filemark, dataOf}
 use Rattle.objects.specs.Events.{put}
 use Rattle.objects.specs.Room.{trailerLength, entryLength, roomOf, fitsIn}
 use Rattle.image.specs.Image.{mostLength, count, endAt, room, fits, sound}
-use Rattle.image.specs.Changes.{occur, occurs}
+use Rattle.changes.specs.Changes.{occur, occurs}
 use Rattle.image.proofs.Facts.{Sound, sound-parts, entries-in}
-use Rattle.image.proofs.Placed.{Kept}
-use Rattle.image.proofs.Obeys.{Admits, obeys, put-next}
+use Rattle.changes.proofs.Placed.{Kept}
+use Rattle.changes.proofs.Obeys.{Admits, obeys, put-next}
 use Rattle.objects.specs.Transfer.{marksOf, fitting, putFrom}
 use Rattle.objects.proofs.Fitting.{fitting-more, fitting-none}
 

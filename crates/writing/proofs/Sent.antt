@@ -12,7 +12,7 @@ use lib.Seq.{drop-drop, length-take-le}
 use Rattle.objects.specs.Object.{block, largestBlock}
 use Rattle.objects.specs.Events.{put}
 use Rattle.image.specs.Image.{count, fits, sound}
-use Rattle.image.specs.Changes.{occur}
+use Rattle.changes.specs.Changes.{occur}
 use Rattle.objects.specs.Transfer.{blocksOf}
 use Rattle.objects.proofs.Fitting.{next-place, place-in}
 use Rattle.writing.proofs.Going.{Going, Gone, begin, turn, stops, ends}

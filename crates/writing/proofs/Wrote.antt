@@ -14,7 +14,7 @@ use Rattle.objects.specs.Object.{Object, block, bytesIn}
 use Rattle.objects.specs.Events.{cut}
 use Rattle.objects.specs.Room.{roomOf, zoneIn}
 use Rattle.image.specs.Image.{count, endAt, room, zone, objects, sound}
-use Rattle.image.specs.Changes.{occur, occurs, cleared}
+use Rattle.changes.specs.Changes.{occur, occurs, cleared}
 use Rattle.image.proofs.Facts.{sound-parts, sound-of}
 use Rattle.image.proofs.Objects.{end-bytes}
 use Rattle.record.specs.declared.drive.Drive.{Drive}
@@ -23,7 +23,7 @@ use Rattle.codes.specs.declared.operation.Operation.the-variants.{Write, WriteF
 use Rattle.codes.specs.Fields.{fixedOf, transferOf, longOf}
 use Rattle.sense.specs.declared.Sense.{Sense}
 use Rattle.objects.specs.Transfer.{blocksOf, marksOf, fitting, putFrom}
-use Rattle.image.proofs.Down.{Down, AllKept, down, down-inside, marks-kept}
+use Rattle.changes.proofs.Down.{Down, AllKept, down, down-inside, marks-kept}
 use Rattle.commands.specs.declared.deeds.Left.{Left}
 use Rattle.commands.specs.Act.{Deed, carrying, checked, good, at, warned, overflowed, offered, goesDown, wrote, writing, marking, eventsOf}
 use Rattle.commands.specs.Step.{acted}

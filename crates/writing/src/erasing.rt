@@ -20,9 +20,9 @@ pub fn erase(s: &mut [u8], d: Drive, cmd: &[u8]) -> Left
 {
     let n = d.position as usize;
     if codes::long(cmd) {
-        image::cut_clearing(s, n);
+        changes::cut_clearing(s, n);
         return commands::good(d, 0);
     }
-    image::cut(s, n);
+    changes::cut(s, n);
     commands::good(d, 0)
 }

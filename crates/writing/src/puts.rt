@@ -6,7 +6,7 @@ ghost use lib.ListN.{length};
 ghost use Rattle.objects.specs.Object.{largestBlock};
 ghost use Rattle.objects.specs.Transfer.{blocksOf, marksOf, fitting, putFrom};
 ghost use Rattle.image.specs.Image.{count, sound, endAt};
-ghost use Rattle.image.specs.Changes.{occurs};
+ghost use Rattle.changes.specs.Changes.{occurs};
 
 // Puts n filemarks from number p on, while each fits; answers how many went down.
 pub fn put_filemarks(s: &mut [u8], p: u32, n: u32) -> u32
@@ -19,7 +19,7 @@ pub fn put_filemarks(s: &mut [u8], p: u32, n: u32) -> u32
         if !image::object_fits(s, at, 0) {
             return done;
         }
-        image::put_filemark(s, at);
+        changes::put_filemark(s, at);
         done += 1;
     }
     done
@@ -38,7 +38,7 @@ pub fn put_blocks(s: &mut [u8], p: u32, n: u32, b: u32, sent: &[u8]) -> u32
         }
         let from = done as usize * b as usize;
         let to = from + b as usize;
-        image::put_block(s, number, &sent[from..to]);
+        changes::put_block(s, number, &sent[from..to]);
         done += 1;
     }
     done

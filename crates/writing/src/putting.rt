@@ -8,7 +8,7 @@ ghost use lib.IntN.{subℕ};
 ghost use lib.ListN.{length};
 ghost use Rattle.objects.specs.Object.{largestBlock};
 ghost use Rattle.image.specs.Image.{count, sound, zone};
-ghost use Rattle.image.specs.Changes.{occurs};
+ghost use Rattle.changes.specs.Changes.{occurs};
 ghost use Rattle.codes.specs.declared.operation.Operation.the-variants.{Write, WriteFilemarks};
 ghost use Rattle.commands.specs.Act.{carrying, checked, good, at, warned, overflowed, writing, marking, eventsOf};
 ghost use Rattle.commands.specs.Tests.{bytesAsked, fieldError};

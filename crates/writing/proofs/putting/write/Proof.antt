@@ -3,7 +3,7 @@
 use borrow.Author.Needs.{needs}
 use mathlib.Core.Path.{sym, _∙_}
 use denote.Ref.{now}
-use Rattle.image.proofs.Down.{blocks-kept, blocks-of, fitting-bytes}
+use Rattle.changes.proofs.Down.{blocks-kept, blocks-of, fitting-bytes}
 use Rattle.commands.proofs.Wrong.{fixed-fields, one-field}
 use Rattle.writing.proofs.Wrote.{stands, inside, nothing-written, no-events, fixed-offered, one-offered, events-written, blocks-written, block-written}
 use Rattle.writing.proofs.putting.write.Statement.{statement}

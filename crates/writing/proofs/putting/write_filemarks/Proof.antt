@@ -1,7 +1,7 @@
 -- Nothing for a count of 0; else the filemarks that fit, and what that tells.
 -- Assumes nothing.
 use borrow.Author.Needs.{needs}
-use Rattle.image.proofs.Down.{marks-kept}
+use Rattle.changes.proofs.Down.{marks-kept}
 use Rattle.writing.proofs.Wrote.{stands, nothing-marked, no-marks, events-marked, marked}
 use Rattle.writing.proofs.putting.write_filemarks.Statement.{statement}
 use Rattle.writing.proofs.putting.write_filemarks.Tie as tie

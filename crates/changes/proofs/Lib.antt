@@ -1,0 +1,8 @@
+pub mod Retitled
+pub mod Trailers
+pub mod Erased
+pub mod Placed
+pub mod Alike
+pub mod Obeys
+pub mod Freed
+pub mod Down

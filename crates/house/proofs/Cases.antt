@@ -1,0 +1,95 @@
+-- How each service comes to its outcome, test by test: one law for each return of the code.
+-- Assumes nothing.
+use Prim.Native.Nat.{ℕ}
+use mathlib.Core.Bool.{Bool, true, false, not}
+use mathlib.Core.Path.{_≡_, refl, ap, _∙_}
+use lib.ListN.{length}
+use mathlib.Core.List.{List}
+use borrow.Author.Tests.{eq-eqb, ne-eqb, not-true, not-false}
+use Rattle.answers.specs.declared.Answer.{Answer}
+use Rattle.answers.specs.Answers.{recordFault, Settled, settled, refused, done, wrongLength}
+use Rattle.image.specs.declared.part.Part.{Part}
+use Rattle.image.specs.Image.{rightLength}
+use Rattle.changes.specs.Changes.{blank, protect}
+use Rattle.house.specs.Images.{blankCall, protectCall}
+use Rattle.image.specs.Image.{faultOf}
+use Rattle.image.specs.Parts.{emptyPart, partOf, shown, placeOf}
+use Rattle.house.specs.Views.{viewOf}
+use Rattle.record.specs.declared.drive.Drive.{Drive}
+use Rattle.record.specs.Record.{recordLength, encodeOf, freshDrive, mountedDrive}
+use Rattle.house.specs.Mount.{partitionsOf, freshCall, mountFault, mountCall}
+use Rattle.house.specs.Views.{chosen, chosenPlace}
+
+-- ---- blank
+
+module _ (s : List ℕ) (r : Bool) (er : r ≡ rightLength s) (a : Answer) where
+  pub blank-refused : not r ≡ true → a ≡ refused wrongLength → settled a s ≡ blankCall s
+  unfolding blankCall
+  blank-refused h e = rw (← er, not-true r h, e) refl
+
+  pub blank-done : not r ≡ false → (t : List ℕ) → t ≡ blank s → a ≡ done → settled a t ≡ blankCall s
+  unfolding blankCall
+  blank-done h t et e = rw (← er, not-false r h, e, et) refl
+
+-- ---- protection
+
+module _ (on : Bool) (s : List ℕ) (f : ℕ) (ef : f ≡ faultOf s) (a : Answer) where
+  pub protect-refused : (f ≡ 0 → ⊥) → a ≡ refused f → settled a s ≡ protectCall on s
+  unfolding protectCall
+  protect-refused h e = rw (← ef, ne-eqb f 0 h, e) refl
+
+  pub protect-done : f ≡ 0 → (t : List ℕ) → t ≡ protect on s → a ≡ done → settled a t ≡ protectCall on s
+  unfolding protectCall
+  protect-done h t et e = rw (← ef, eq-eqb f 0 h, e, et) refl
+
+-- ---- fresh and mount
+
+module _ (rec : List ℕ) (a : Answer) where
+  pub fresh-refused : (length rec ≡ recordLength → ⊥) → a ≡ refused recordFault → settled a rec ≡ freshCall rec
+  unfolding freshCall
+  fresh-refused h e = rw (ne-eqb (length rec) recordLength h, e) refl
+
+  pub fresh-done : length rec ≡ recordLength → (t : List ℕ) (d : Drive) → d ≡ freshDrive → t ≡ encodeOf d → a ≡ done → settled a t ≡ freshCall rec
+  unfolding freshCall
+  fresh-done h t d ed et e = rw (eq-eqb (length rec) recordLength h, e, et, ed) refl
+
+module _ (rec p0 p1 : List ℕ) (f : ℕ) (ef : f ≡ mountFault rec p0 p1) (a : Answer) where
+  pub mount-refused : (f ≡ 0 → ⊥) → a ≡ refused f → settled a rec ≡ mountCall rec p0 p1
+  unfolding mountCall
+  mount-refused h e = rw (← ef, ne-eqb f 0 h, e) refl
+
+  pub mount-served : f ≡ 0 → (t : List ℕ) (d : Drive) (n : ℕ) → n ≡ partitionsOf p1 → d ≡ mountedDrive n → t ≡ encodeOf d → a ≡ done → settled a t ≡ mountCall rec p0 p1
+  unfolding mountCall
+  mount-served h t d n en ed et e = rw (← ef, eq-eqb f 0 h, e, et, ed, en) refl
+
+-- ---- the view, by the partition's number
+
+-- what a part of the chosen slice is, in bytes and in place
+abbrev pub Handed : List ℕ → ℕ × ℕ → List ℕ → ℕ × ℕ → Part → Type 0
+Handed r q s place p = (r ≡ shown s p) × (q ≡ placeOf place p)
+
+module _ (p0 p1 : List ℕ) (q0 q1 : ℕ × ℕ) (k i : ℕ) (r : List ℕ) (q : ℕ × ℕ) where
+  pub view-0 : k ≡ 0 → Handed r q p0 q0 (partOf p0 i) → Handed r q (chosen p0 p1 k) (chosenPlace q0 q1 k) (viewOf p0 p1 k i)
+  unfolding viewOf
+  view-0 h e = rw (h) e
+
+  pub view-1 : k ≡ 1 → Handed r q p1 q1 (partOf p1 i) → Handed r q (chosen p0 p1 k) (chosenPlace q0 q1 k) (viewOf p0 p1 k i)
+  unfolding viewOf
+  view-1 h e = rw (h) e
+
+  pub view-other : (k ≡ 0 → ⊥) → (k ≡ 1 → ⊥) → Handed r q p0 q0 emptyPart → Handed r q (chosen p0 p1 k) (chosenPlace q0 q1 k) (viewOf p0 p1 k i)
+  unfolding viewOf
+  view-other h g e = rw (ne-eqb k 0 h, ne-eqb k 1 g) e
+
+module _ (p0 p1 : List ℕ) (k i : ℕ) (p : Part) where
+  pub part-0 : k ≡ 0 → p ≡ partOf p0 i → p ≡ viewOf p0 p1 k i
+  unfolding viewOf
+  part-0 h e = rw h e
+
+  pub part-1 : k ≡ 1 → p ≡ partOf p1 i → p ≡ viewOf p0 p1 k i
+  unfolding viewOf
+  part-1 h e = rw h e
+
+  pub part-other : (k ≡ 0 → ⊥) → (k ≡ 1 → ⊥) → p ≡ emptyPart → p ≡ viewOf p0 p1 k i
+  unfolding viewOf
+  part-other h g e = rw (ne-eqb k 0 h, ne-eqb k 1 g) e

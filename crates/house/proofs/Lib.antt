@@ -1,0 +1,2 @@
+pub mod Mounted
+pub mod Cases
