@@ -1,6 +1,6 @@
 // What a call answers: three numbers, and how they pack into one for C.
 ghost use mathlib.Core.Path.{_≡_};
-ghost use Prim.Native.Nat.{_<_, _^_};
+ghost use Prim.Native.Nat.{_<_};
 ghost use Rattle.answers.specs.Answers.{packed, packedPart};
 ghost use Rattle.answers.specs.Answers.{answered as Answers·answered, refused as Answers·refused, done as Answers·done};
 

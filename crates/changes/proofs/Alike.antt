@@ -13,10 +13,10 @@ use Rattle.objects.specs.Room.{trailerLength, entryLength}
 use Rattle.image.specs.Image.{entryPlace, entry, topBit, low31, endAt, ordered, objectAt}
 
 -- the bytes of a and b from f up to t are the same
-abbrev pub Agree : ℕ → ℕ → List ℕ → List ℕ → Type 0
-Agree f t a b = (j : ℕ) → f ≤ j → j < t → getD a j 0 ≡ getD b j 0
+abbrev pub Matching : ℕ → ℕ → List ℕ → List ℕ → Type 0
+Matching f t a b = (j : ℕ) → f ≤ j → j < t → getD a j 0 ≡ getD b j 0
 
-pub slice-agree : (a b : List ℕ) (f t : ℕ) → t ≤ length a → t ≤ length b → Agree f t a b → slice f t a ≡ slice f t b
+pub slice-agree : (a b : List ℕ) (f t : ℕ) → t ≤ length a → t ≤ length b → Matching f t a b → slice f t a ≡ slice f t b
 slice-agree a b f t la lb h =
     ext-getD 0 (slice f t a) (slice f t b) (length-slice f t a la ∙ sym (length-slice f t b lb)) (λ i k.
     let m : i < t - f = omega (arith, length-slice f t a la) in
@@ -24,7 +24,7 @@ slice-agree a b f t la lb h =
     ∙ sym (getD-drop f (take t b) i 0 ∙ getD-take t b (f + i) 0 (omega arith)))
 
 module _ (a b : List ℕ) (p : ℕ) (len : length b ≡ length a) (fit : entryLength * p + trailerLength ≤ length a)
-    (same : Agree (length a - trailerLength - entryLength * p) (length a - trailerLength) b a) where
+    (same : Matching (length a - trailerLength - entryLength * p) (length a - trailerLength) b a) where
   pub alike-entry : (i : ℕ) → i < p → entry b i ≡ entry a i
   unfolding entry
   alike-entry i h = rw len (be-same 4 b (entryPlace (length a) i) a (entryPlace (length a) i) (λ j k. same (entryPlace (length a) i + j) (omega arith) (omega arith)))
@@ -39,7 +39,7 @@ module _ (a b : List ℕ) (p : ℕ) (len : length b ≡ length a) (fit : entryLe
   alike-ordered zero h = refl
   alike-ordered (suc i) h = rw (alike-ordered i (omega arith), alike-end i (omega arith), alike-entry i h) refl
 
-  pub alike-object : (i : ℕ) → i < p → endAt a (suc i) ≤ length a → Agree 0 (endAt a (suc i)) b a → objectAt b i ≡ objectAt a i
+  pub alike-object : (i : ℕ) → i < p → endAt a (suc i) ≤ length a → Matching 0 (endAt a (suc i)) b a → objectAt b i ≡ objectAt a i
   unfolding objectAt
   alike-object i h m d =
       rw (alike-entry i h, alike-end i (omega arith), alike-end (suc i) h)

@@ -15,15 +15,15 @@ use Rattle.objects.specs.Room.{roomOf, fitsIn}
 use Rattle.image.specs.Image.{count, endAt, room, fits}
 use Rattle.changes.specs.Changes.{occur, occurs}
 use Rattle.image.proofs.Facts.{Sound, ends-in}
-use Rattle.changes.proofs.Placed.{Kept}
+use Rattle.changes.proofs.Placed.{Holdable}
 use Rattle.changes.proofs.Obeys.{Admits, obeys, put-next}
 use Rattle.objects.specs.Transfer.{marksOf, blocksOf, fitting, putFrom}
 use Rattle.objects.proofs.Fitting.{fitting-more, fitting-none}
 
 -- objects that a partition may hold
-unfoldable pub AllKept : List Object → Type 0
-AllKept [] = Unit {0}
-AllKept (o ∷ os) = Kept o × AllKept os
+unfoldable pub AllHoldable : List Object → Type 0
+AllHoldable [] = Unit {0}
+AllHoldable (o ∷ os) = Holdable o × AllHoldable os
 
 -- the objects os put from number p of s on
 pub record Down (p : ℕ) (os : List Object) (s : List ℕ) : Type 0 where
@@ -53,13 +53,13 @@ fits-of : (s : List ℕ) (n m : ℕ) → fitsIn (roomOf (length s) n (endAt s n)
 unfolding fits room
 fits-of s n m h = h
 
-pub down : (os : List Object) (p : ℕ) (s : List ℕ) → Sound s → p ≤ count s → AllKept os → Down p (fitting (length s) p (endAt s p) os) s
-unfolding AllKept fitting
+pub down : (os : List Object) (p : ℕ) (s : List ℕ) → Sound s → p ≤ count s → AllHoldable os → Down p (fitting (length s) p (endAt s p) os) s
+unfolding AllHoldable fitting
 down [] p s k h a = none-down p s k h
 down (o ∷ os) p s k h a = go (fitsIn (roomOf (length s) p (endAt s p)) (length (dataOf o))) refl (down os (suc p) (occur (put p o) s))
   where
     go : (t : Bool) → fitsIn (roomOf (length s) p (endAt s p)) (length (dataOf o)) ≡ t
-        → (Sound (occur (put p o) s) → suc p ≤ count (occur (put p o) s) → AllKept os → Down (suc p) (fitting (length (occur (put p o) s)) (suc p) (endAt (occur (put p o) s) (suc p)) os) (occur (put p o) s))
+        → (Sound (occur (put p o) s) → suc p ≤ count (occur (put p o) s) → AllHoldable os → Down (suc p) (fitting (length (occur (put p o) s)) (suc p) (endAt (occur (put p o) s) (suc p)) os) (occur (put p o) s))
         → Down p (fitting (length s) p (endAt s p) (o ∷ os)) s
     go false e i = subst (λ (fs : List Object). Down p fs s) (sym (fitting-none (length s) p (endAt s p) o os e)) (none-down p s k h)
     go true e i =
@@ -79,13 +79,13 @@ down-inside p os s d =
 
 -- ---- filemarks and blocks may be held
 
-pub marks-kept : (n : ℕ) → AllKept (marksOf n)
-unfolding AllKept marksOf
+pub marks-kept : (n : ℕ) → AllHoldable (marksOf n)
+unfolding AllHoldable marksOf
 marks-kept zero = tt
 marks-kept (suc n) = (tt, marks-kept n)
 
-pub blocks-kept : (b n : ℕ) (x : List ℕ) → 1 ≤ b → b ≤ largestBlock → n * b ≤ length x → AllKept (blocksOf b n x)
-unfolding AllKept blocksOf
+pub blocks-kept : (b n : ℕ) (x : List ℕ) → 1 ≤ b → b ≤ largestBlock → n * b ≤ length x → AllHoldable (blocksOf b n x)
+unfolding AllHoldable blocksOf
 blocks-kept b zero x u v m = tt
 blocks-kept b (suc n) x u v m =
     let e = suc-mul n b in

@@ -10,7 +10,7 @@ use Rattle.objects.specs.Room.{trailerLength, entryLength}
 use Rattle.image.specs.Image.{count, flags, directory, size, endAt, objectAt, objects}
 use Rattle.changes.specs.Changes.{retitle}
 use Rattle.image.proofs.Facts.{Sound, ordered-below, ends-in, entries-in}
-use Rattle.changes.proofs.Alike.{Agree, alike-end, alike-ordered, alike-object}
+use Rattle.changes.proofs.Alike.{Matching, alike-end, alike-ordered, alike-object}
 use Rattle.image.proofs.Objects.{upto-cong, take-objects}
 use Rattle.changes.proofs.Retitled.{retitle-length, retitle-front, retitle-flags, retitle-size, retitle-count, retitle-dir}
 
@@ -21,7 +21,7 @@ module _ (a : List ℕ) (s : Sound a) (p : ℕ) (h : p ≤ count a) where
   cut-front : (j : ℕ) → j < length a - trailerLength → getD (retitle (length a) p a) j 0 ≡ getD a j 0
   cut-front j k = retitle-front (length a) p a refl (s .least) j k
 
-  cut-agree : Agree (length a - trailerLength - entryLength * p) (length a - trailerLength) (retitle (length a) p a) a
+  cut-agree : Matching (length a - trailerLength - entryLength * p) (length a - trailerLength) (retitle (length a) p a) a
   cut-agree j u v = cut-front j v
 
   pub cut-count : count (retitle (length a) p a) ≡ p

@@ -12,7 +12,7 @@ use Rattle.objects.specs.Room.{trailerLength, entryLength}
 use Rattle.image.specs.Image.{count, flags, directory, size, endAt, objectAt, objects}
 use Rattle.changes.specs.Changes.{cleared}
 use Rattle.image.proofs.Facts.{Sound, ends-grow, entries-in}
-use Rattle.changes.proofs.Alike.{Agree, alike-end, alike-ordered, alike-object}
+use Rattle.changes.proofs.Alike.{Matching, alike-end, alike-ordered, alike-object}
 use Rattle.image.proofs.Objects.{upto-cong}
 
 pub record Freed (s : List ℕ) : Type 0 where
@@ -37,7 +37,7 @@ module _ (a : List ℕ) (s : Sound a) where
   unfolding cleared
   cleared-back q h = be-over-ge 4 a (endAt a (count a)) (zeros (directory a - endAt a (count a))) q (omega (arith, gap, s .data-in, s .dir-is)) in-image
 
-  cleared-agree : Agree (length a - trailerLength - entryLength * count a) (length a - trailerLength) (cleared a) a
+  cleared-agree : Matching (length a - trailerLength - entryLength * count a) (length a - trailerLength) (cleared a) a
   unfolding cleared
   cleared-agree j u v = getD-over-ge a (endAt a (count a)) (zeros (directory a - endAt a (count a))) j (omega (arith, gap, s .data-in, s .dir-is)) in-image
 

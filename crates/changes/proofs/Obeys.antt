@@ -18,11 +18,11 @@ use Rattle.image.proofs.Facts.{Sound, fits-room}
 use Rattle.image.proofs.Objects.{length-objects}
 use Rattle.changes.proofs.Retitled.{retitle-out}
 use Rattle.changes.proofs.Erased.{cut-length, cut-flags, cut-objects, cut-sound}
-use Rattle.changes.proofs.Placed.{Kept, Fits, put-length, put-flags, put-count, put-end-new, put-objects, put-sound}
+use Rattle.changes.proofs.Placed.{Holdable, Fits, put-length, put-flags, put-count, put-end-new, put-objects, put-sound}
 
 -- an event that the image admits: at a number that stands or is next, and what is put may be held and fits there
 abbrev pub Admits : Event → List ℕ → Type 0
-Admits (put n o) s = (n ≤ count s) × Kept o × (fits s n (length (dataOf o)) ≡ true)
+Admits (put n o) s = (n ≤ count s) × Holdable o × (fits s n (length (dataOf o)) ≡ true)
 Admits (cut n) s = n ≤ count s
 
 -- a byte that 01 does not name for the event: none of the data, the entry, N and D

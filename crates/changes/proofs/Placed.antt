@@ -17,14 +17,14 @@ use Rattle.objects.specs.Room.{trailerLength, entryLength}
 use Rattle.image.specs.Image.{entryPlace, count, flags, directory, size, entry, topBit, low31, endAt, follows, ordered, objectAt, objects, upto}
 use Rattle.changes.specs.Changes.{retitle, entryOf, enter}
 use Rattle.image.proofs.Facts.{Sound, top-block, top-filemark, low-block, low-filemark, follows-block, follows-filemark, ordered-below, ends-grow, entries-in}
-use Rattle.changes.proofs.Alike.{Agree, slice-agree, alike-end, alike-ordered, alike-object}
+use Rattle.changes.proofs.Alike.{Matching, slice-agree, alike-end, alike-ordered, alike-object}
 use Rattle.image.proofs.Objects.{upto-cong, take-objects}
 use Rattle.changes.proofs.Retitled.{retitle-length, retitle-front, retitle-flags, retitle-size, retitle-count, retitle-dir}
 
 -- an object that an image may hold: a filemark, or a block of 1 to 65,536 bytes
-abbrev pub Kept : Object → Type 0
-Kept filemark = Unit {0}
-Kept (block bs) = (0 < length bs) × (length bs ≤ largestBlock)
+abbrev pub Holdable : Object → Type 0
+Holdable filemark = Unit {0}
+Holdable (block bs) = (0 < length bs) × (length bs ≤ largestBlock)
 
 -- the room at n holds the object's entry and its data
 abbrev pub Fits : List ℕ → ℕ → Object → Type 0
@@ -43,7 +43,7 @@ module _ (p : ℕ) where
   entry-low filemark h = low-filemark p (omega arith) ∙ omega arith
   entry-low (block bs) h = low-block (p + length bs) h
 
-  entry-follows : (o : Object) → Kept o → p + length (dataOf o) < 2 ^ 31 → follows p (entryOf o p) ≡ true
+  entry-follows : (o : Object) → Holdable o → p + length (dataOf o) < 2 ^ 31 → follows p (entryOf o p) ≡ true
   unfolding entryOf
   entry-follows filemark k h = follows-filemark p (omega arith)
   entry-follows (block bs) k h = follows-block p (p + length bs) (omega arith) (omega arith) h
@@ -53,7 +53,7 @@ module _ (p : ℕ) where
   entry-kind filemark h = rw (top-filemark (2 ^ 31 + p) (omega arith) (omega arith)) refl
   entry-kind (block bs) h = rw (top-block (p + length bs) h) refl
 
-module _ (a : List ℕ) (s : Sound a) (p : ℕ) (o : Object) (h : p ≤ count a) (q : Kept o) (f : Fits a p o) where
+module _ (a : List ℕ) (s : Sound a) (p : ℕ) (o : Object) (h : p ≤ count a) (q : Holdable o) (f : Fits a p o) where
   small : endAt a p + length (dataOf o) < 2 ^ 31
   small = omega (arith, s .most)
 
@@ -98,7 +98,7 @@ module _ (a : List ℕ) (s : Sound a) (p : ℕ) (o : Object) (h : p ≤ count a)
   put-front : (j : ℕ) → j < length a - trailerLength → getD (retitle (length a) (p + 1) (enter a p o)) j 0 ≡ getD (enter a p o) j 0
   put-front j k = retitle-front (length a) (p + 1) (enter a p o) enter-length (s .least) j k
 
-  put-agree : Agree (length a - trailerLength - entryLength * p) (length a - trailerLength) (retitle (length a) (p + 1) (enter a p o)) a
+  put-agree : Matching (length a - trailerLength - entryLength * p) (length a - trailerLength) (retitle (length a) (p + 1) (enter a p o)) a
   put-agree j u v = put-front j v ∙ enter-back j u
 
   pub put-count : count (retitle (length a) (p + 1) (enter a p o)) ≡ suc p

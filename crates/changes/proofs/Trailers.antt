@@ -17,7 +17,7 @@ use Rattle.objects.specs.Room.{trailerLength, entryLength}
 use Rattle.image.specs.Image.{leastLength, mostLength, flagBits, count, flags, protected, directory, size, endAt, ordered, objectAt, objects, upto}
 use Rattle.changes.specs.Changes.{retitle, reflag, protect, blank}
 use Rattle.image.proofs.Facts.{Sound, ends-in, entries-in}
-use Rattle.changes.proofs.Alike.{Agree, alike-end, alike-ordered, alike-object}
+use Rattle.changes.proofs.Alike.{Matching, alike-end, alike-ordered, alike-object}
 use Rattle.image.proofs.Objects.{upto-cong}
 use Rattle.changes.proofs.Retitled.{retitle-length, retitle-out, retitle-count, retitle-dir}
 
@@ -55,7 +55,7 @@ module _ (a : List ℕ) (s : Sound a) (f : ℕ) (known : f < 2 ^ flagBits) where
   unfolding flags reflag
   reflag-flags = rw reflag-length (be-put 4 a (length a - 12) f at-flags (omega arith))
 
-  reflag-agree : Agree (length a - trailerLength - entryLength * count a) (length a - trailerLength) (reflag f a) a
+  reflag-agree : Matching (length a - trailerLength - entryLength * count a) (length a - trailerLength) (reflag f a) a
   reflag-agree j u v = reflag-front j (omega (arith, s .least))
 
   reflag-end : (i : ℕ) → i ≤ count a → endAt (reflag f a) i ≡ endAt a i

@@ -66,21 +66,22 @@ pub fn block_length(op: u8) -> u8
 pub fn operation_of(op: u8) -> Operation
     ensures { λ r. ⌜ r ≡ operationOf op ⌝ }
 {
-    match op {
-        0x00 => Operation::TestUnitReady,
-        0x01 => Operation::Rewind,
-        0x03 => Operation::RequestSense,
-        0x05 => Operation::ReadBlockLimits,
-        0x08 => Operation::Read,
-        0x0a => Operation::Write,
-        0x10 => Operation::WriteFilemarks,
-        0x11 => Operation::Space,
-        0x15 => Operation::ModeSelect,
-        0x19 => Operation::Erase,
-        0x1a => Operation::ModeSense,
-        0x1b => Operation::LoadUnload,
-        0x2b => Operation::Locate,
-        0x34 => Operation::ReadPosition,
+    let n = op as u16;
+    match n {
+        TEST_UNIT_READY => Operation::TestUnitReady,
+        REWIND => Operation::Rewind,
+        REQUEST_SENSE => Operation::RequestSense,
+        READ_BLOCK_LIMITS => Operation::ReadBlockLimits,
+        READ => Operation::Read,
+        WRITE => Operation::Write,
+        WRITE_FILEMARKS => Operation::WriteFilemarks,
+        SPACE => Operation::Space,
+        MODE_SELECT => Operation::ModeSelect,
+        ERASE => Operation::Erase,
+        MODE_SENSE => Operation::ModeSense,
+        LOAD_UNLOAD => Operation::LoadUnload,
+        LOCATE => Operation::Locate,
+        READ_POSITION => Operation::ReadPosition,
         _ => Operation::NotServed,
     }
 }
@@ -89,22 +90,23 @@ pub fn operation_of(op: u8) -> Operation
 pub fn masks_of(op: u8) -> [u8; WIDTH]
     ensures { λ r. ⌜ r ≡ spread (masksOf op) ⌝ }
 {
-    match op {
-        0x00 => masks::TEST_UNIT_READY,
-        0x01 => masks::REWIND,
-        0x03 => masks::REQUEST_SENSE,
-        0x05 => masks::READ_BLOCK_LIMITS,
-        0x08 => masks::READ,
-        0x0a => masks::WRITE,
-        0x10 => masks::WRITE_FILEMARKS,
-        0x11 => masks::SPACE,
-        0x15 => masks::MODE_SELECT,
-        0x19 => masks::ERASE,
-        0x1a => masks::MODE_SENSE,
-        0x1b => masks::LOAD_UNLOAD,
-        0x2b => masks::LOCATE,
-        0x34 => masks::READ_POSITION,
-        _ => masks::NONE,
+    let n = op as u16;
+    match n {
+        TEST_UNIT_READY => masks::TEST_UNIT_READY_MASKS,
+        REWIND => masks::REWIND_MASKS,
+        REQUEST_SENSE => masks::REQUEST_SENSE_MASKS,
+        READ_BLOCK_LIMITS => masks::READ_BLOCK_LIMITS_MASKS,
+        READ => masks::READ_MASKS,
+        WRITE => masks::WRITE_MASKS,
+        WRITE_FILEMARKS => masks::WRITE_FILEMARKS_MASKS,
+        SPACE => masks::SPACE_MASKS,
+        MODE_SELECT => masks::MODE_SELECT_MASKS,
+        ERASE => masks::ERASE_MASKS,
+        MODE_SENSE => masks::MODE_SENSE_MASKS,
+        LOAD_UNLOAD => masks::LOAD_UNLOAD_MASKS,
+        LOCATE => masks::LOCATE_MASKS,
+        READ_POSITION => masks::READ_POSITION_MASKS,
+        _ => masks::NO_MASKS,
     }
 }
 

@@ -1,27 +1,19 @@
 -- What stands of a command when it has acted, return by return.
 -- Assumes nothing.
-use Prim.Native.Nat.{ℕ, zero, suc, _≤_, _<_}
-use native.Mathlib.Omega.{arith}
-use mathlib.Core.Path.{_≡_, refl, sym, _∙_, subst}
-use mathlib.Core.Bool.{Bool, true, false, not}
+use Prim.Native.Nat.{ℕ}
+use mathlib.Core.Path.{_≡_, refl}
+use mathlib.Core.Bool.{Bool, true, false}
 use mathlib.Core.List.{List}
-use borrow.Author.Tests.{eq-eqb, ne-eqb, le-leb, lt-leb, not-true, not-false}
-use lib.IntN.{subℕ}
-use lib.ListN.{length}
 use Rattle.answers.specs.Answers.{checkCondition}
 use Rattle.objects.specs.Movement as M
 use Rattle.sense.specs.declared.Sense.{Sense}
-use Rattle.sense.specs.Sense.{illegalRequest, senseBytes, emptySense, told}
-use Rattle.image.specs.Image.{count, objects}
-use Rattle.image.proofs.Objects.{length-objects}
+use Rattle.sense.specs.Sense.{senseBytes, emptySense}
 use Rattle.record.specs.declared.drive.Drive.{Drive}
 use Rattle.record.specs.Record.{withSense}
-use Rattle.codes.specs.Fields.{changesPartition, partitionOf, objectOf, allocationOf}
-use Rattle.commands.specs.Parameters.{wholeLength, listLengthKnown, listRight, newLength}
+use Rattle.codes.specs.Fields.{changesPartition, partitionOf}
 use Rattle.commands.specs.declared.deeds.Left.{Left}
-use Rattle.commands.specs.Act.{carrying, good, checked, atPartition, withLength, endTold, targetOf, locateTells, locating, selecting}
+use Rattle.commands.specs.Act.{carrying, good, checked, targetOf}
 use Rattle.commands.specs.Step.{statusOf, keptOf}
-use Rattle.commands.specs.Call.{seenOf}
 use Rattle.commands.specs.Left.{leftBy}
 
 module _ (d e : Drive) (b : List ℕ) (h : e ≡ withSense d b) (n : ℕ) where

@@ -14,6 +14,7 @@ use Rattle.objects.specs.Movement as M
 use Rattle.objects.specs.Events.{Event, cut}
 use Rattle.objects.specs.Room.{roomOf, zoneIn}
 use Rattle.sense.specs.declared.Sense.{Sense}
+use Rattle.sense.specs.Sense.{noAdditional, unqualified, filemarkDetected, endOfPartition, beginningOfPartition, endOfDataDetected, invalidListField}
 use Rattle.sense.specs.Sense.{noSense, illegalRequest, blankCheck, volumeOverflow, told, plainly, attentionSense}
 use Rattle.record.specs.declared.drive.Drive.{Drive}
 use Rattle.record.specs.Record.{noAttention, drive, holding, loadedAnew, unloaded}
@@ -78,22 +79,22 @@ unattended d = drive (d .loaded) (d .partitions) (d .current) noAttention (d .po
 
 -- a filemark met: 0/00/01, FILEMARK
 abbrev pub filemarkMet : ℤ → Sense
-filemarkMet residue = told true true false false noSense 0x00 0x01 residue
+filemarkMet residue = told true true false false noSense noAdditional filemarkDetected residue
 
 -- end of data: 8/00/05, by a command that counts or not
 abbrev pub endTold : Bool → Seen → ℤ → Sense
-endTold counts v residue = told counts false (eomAtEnd v) false blankCheck 0x00 0x05 residue
+endTold counts v residue = told counts false (eomAtEnd v) false blankCheck noAdditional endOfDataDetected residue
 
 abbrev pub endMet : Seen → ℤ → Sense
 endMet v residue = endTold true v residue
 
 -- a block of another length: ILI, 0/00/00
 abbrev pub oddMet : ℤ → Sense
-oddMet residue = told true false false true noSense 0x00 0x00 residue
+oddMet residue = told true false false true noSense noAdditional unqualified residue
 
 -- the beginning met: 0/00/04 with EOM
 abbrev pub beginningMet : ℤ → Sense
-beginningMet residue = told true false true false noSense 0x00 0x04 residue
+beginningMet residue = told true false true false noSense noAdditional beginningOfPartition residue
 
 -- ---- READ
 
@@ -146,11 +147,11 @@ goesDown o d cmd sent v = fitting (v .size) (d .position) (bytesIn (take (d .pos
 
 -- "All put and the new position in the zone: 0/00/02, EOM, information 0 (H)."
 abbrev pub warned : Sense
-warned = told true false true false noSense 0x00 0x02 (pos 0)
+warned = told true false true false noSense noAdditional endOfPartition (pos 0)
 
 -- "Not all put: D/00/02, EOM, residue not put (variable: the request)."
 abbrev pub overflowed : ℤ → Sense
-overflowed residue = told true false true false volumeOverflow 0x00 0x02 residue
+overflowed residue = told true false true false volumeOverflow noAdditional endOfPartition residue
 
 -- n were asked for, of which the objects os went down; `short` is the residue where not all did
 unfoldable pub wrote : Drive → Seen → ℕ → List Object → ℤ → Deed
@@ -236,7 +237,7 @@ selecting d cmd sent =
     let n = allocationOf cmd in
     cond (eqb n 0) (good d)
     (cond (listRight n sent) (carrying n (good (cond (eqb n wholeLength) (withLength d (newLength sent)) d)))
-    (checked d (plainly illegalRequest 0x26 0x00)))
+    (checked d (plainly illegalRequest invalidListField unqualified)))
 
 -- ---- the commands that answer with data, cut at an allocation where they have one
 

@@ -27,6 +27,14 @@ shortLength = 20
 abbrev pub longLength : ℕ
 longLength = 32
 
+-- ---- the pages of MODE SENSE: none, and all
+
+abbrev pub noPage : ℕ
+noPage = 0x00
+
+abbrev pub allPages : ℕ
+allPages = 0x3F
+
 -- ---- their bytes
 
 -- READ BLOCK LIMITS: 00 01 00 00 00 01: the largest block in three bytes, the least, 1, in two

@@ -8,7 +8,7 @@ use lib.Dec.{eqb, leb, ltb}
 use lib.ListN.{length}
 use Rattle.objects.specs.Object.{largestBlock}
 use Rattle.answers.specs.Answers.{sentShort, receivedShort}
-use Rattle.sense.specs.Sense.{notReady, illegalRequest, dataProtect}
+use Rattle.sense.specs.Sense.{notReady, illegalRequest, dataProtect, unqualified, listLengthError, invalidOperationCode, invalidField, writeProtected, mediumNotPresent}
 use Rattle.record.specs.declared.drive.Drive.{Drive}
 use Rattle.record.specs.Record.{noAttention}
 use Rattle.codes.specs.declared.operation.Operation.{Operation}
@@ -17,7 +17,7 @@ use Rattle.codes.specs.Codes.{masksHold}
 use Rattle.codes.specs.Fields.{fixedOf, siliOf, transferOf, spaceCodeOf, changesPartition, partitionOf, formOf, dbdOf, pageOf, pfOf, allocationOf}
 use Rattle.commands.specs.Stop.{Stop, refuse, attend, fault}
 use Rattle.commands.specs.Kinds.{among, passesAttention, isServed, needsCartridge, locates, writes}
-use Rattle.commands.specs.Parameters.{limitsLength, headerLength, wholeLength, shortLength, longLength, listLengthKnown}
+use Rattle.commands.specs.Parameters.{noPage, allPages, limitsLength, headerLength, wholeLength, shortLength, longLength, listLengthKnown}
 use Rattle.commands.specs.Act.{Seen, overBlocks, overFilemarks, toEnd, shortForm, longForm, senseAsked}
 
 -- "length × block length (FIXED) or length bytes"
@@ -36,7 +36,7 @@ fieldError o d cmd =
     -- "PF must be 1"
     (cond (among (ModeSelect ∷ []) o) (not (pfOf cmd))
     -- "page 00h or 3Fh, else field error"
-    (cond (among (ModeSense ∷ []) o) (not (eqb (pageOf cmd) 0x00 || eqb (pageOf cmd) 0x3F))
+    (cond (among (ModeSense ∷ []) o) (not (eqb (pageOf cmd) noPage || eqb (pageOf cmd) allPages))
     -- "other forms field error"
     (cond (among (ReadPosition ∷ []) o) (not (eqb (formOf cmd) shortForm || eqb (formOf cmd) longForm))
     false)))))
@@ -60,19 +60,19 @@ needed o d cmd = cond (among (Read ∷ []) o) (bytesAsked d cmd) (replyLength o 
 
 -- "fields (5/24/00)"
 abbrev pub fieldFault : Stop
-fieldFault = fault illegalRequest 0x24 0x00
+fieldFault = fault illegalRequest invalidField unqualified
 
 -- `room` is the length of the receiving buffer
 unfoldable pub tests : Operation → Drive → List ℕ → Seen → List ℕ → ℕ → List (Bool × Stop)
 tests o d cmd v sent room =
     (not (eqb (d .attention) noAttention) && not (passesAttention o), attend)
-    ∷ (not (isServed o), fault illegalRequest 0x20 0x00)
+    ∷ (not (isServed o), fault illegalRequest invalidOperationCode unqualified)
     ∷ (not (masksHold cmd) || fieldError o d cmd, fieldFault)
     -- "else 5/1A/00, tested just after the fields"
-    ∷ (among (ModeSelect ∷ []) o && not (listLengthKnown (allocationOf cmd)), fault illegalRequest 0x1A 0x00)
-    ∷ (needsCartridge o && eqb (d .loaded) 0, fault notReady 0x3A 0x00)
+    ∷ (among (ModeSelect ∷ []) o && not (listLengthKnown (allocationOf cmd)), fault illegalRequest listLengthError unqualified)
+    ∷ (needsCartridge o && eqb (d .loaded) 0, fault notReady mediumNotPresent unqualified)
     ∷ (locates o && changesPartition cmd && leb (d .partitions) (partitionOf cmd), fieldFault)
-    ∷ (writes o && v .guarded, fault dataProtect 0x27 0x00)
+    ∷ (writes o && v .guarded, fault dataProtect writeProtected unqualified)
     ∷ (ltb (length sent) (taken o d cmd), refuse sentShort)
     ∷ (ltb room (needed o d cmd), refuse receivedShort)
     ∷ []

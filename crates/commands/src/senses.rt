@@ -6,14 +6,30 @@ ghost use Rattle.image.specs.Image.{sound};
 ghost use Rattle.commands.specs.Act.{eomAtEnd, endTold, endMet, filemarkMet, oddMet, beginningMet};
 ghost use Rattle.commands.specs.Act.{warned as Act·warned, overflowed as Act·overflowed};
 ghost use Rattle.commands.specs.Call.{seenOf};
+use sense::BEGINNING_OF_PARTITION;
+use sense::END_OF_DATA_DETECTED;
+use sense::END_OF_PARTITION;
+use sense::FILEMARK_DETECTED;
+use sense::NO_ADDITIONAL;
 use sense::Sense;
+use sense::UNQUALIFIED;
 
 // A filemark met: 0/00/01, FILEMARK.
 pub fn filemark_met(request: u32, actual: u32) -> Sense
     ensures { λ r. ⌜ r ≡ filemarkMet (subℕ request actual) ⌝ }
 {
     let key = sense::NO_SENSE;
-    sense::told(true, true, false, false, key, 0x00, 0x01, request, actual)
+    sense::told(
+        true,
+        true,
+        false,
+        false,
+        key,
+        NO_ADDITIONAL,
+        FILEMARK_DETECTED,
+        request,
+        actual,
+    )
 }
 
 // A block of another length: 0/00/00, ILI.
@@ -21,7 +37,17 @@ pub fn odd_met(request: u32, actual: u32) -> Sense
     ensures { λ r. ⌜ r ≡ oddMet (subℕ request actual) ⌝ }
 {
     let key = sense::NO_SENSE;
-    sense::told(true, false, false, true, key, 0x00, 0x00, request, actual)
+    sense::told(
+        true,
+        false,
+        false,
+        true,
+        key,
+        NO_ADDITIONAL,
+        UNQUALIFIED,
+        request,
+        actual,
+    )
 }
 
 // The beginning met: 0/00/04, EOM.
@@ -29,7 +55,17 @@ pub fn beginning_met(request: u32, actual: u32) -> Sense
     ensures { λ r. ⌜ r ≡ beginningMet (subℕ request actual) ⌝ }
 {
     let key = sense::NO_SENSE;
-    sense::told(true, false, true, false, key, 0x00, 0x04, request, actual)
+    sense::told(
+        true,
+        false,
+        true,
+        false,
+        key,
+        NO_ADDITIONAL,
+        BEGINNING_OF_PARTITION,
+        request,
+        actual,
+    )
 }
 
 // EOM at end of data: never, by a house rule, whatever is seen of the partition.
@@ -47,7 +83,17 @@ pub fn end_told(s: &[u8], counts: bool, request: u32, actual: u32) -> Sense
 {
     let key = sense::BLANK_CHECK;
     let eom = eom_at_end(s);
-    sense::told(counts, false, eom, false, key, 0x00, 0x05, request, actual)
+    sense::told(
+        counts,
+        false,
+        eom,
+        false,
+        key,
+        NO_ADDITIONAL,
+        END_OF_DATA_DETECTED,
+        request,
+        actual,
+    )
 }
 
 // End of data, by a command that counts.
@@ -62,7 +108,17 @@ pub fn end_met(s: &[u8], request: u32, actual: u32) -> Sense
 pub fn warned() -> Sense
     ensures { λ r. ⌜ r ≡ Act·warned ⌝ }
 {
-    sense::told(true, false, true, false, sense::NO_SENSE, 0x00, 0x02, 0, 0)
+    sense::told(
+        true,
+        false,
+        true,
+        false,
+        sense::NO_SENSE,
+        NO_ADDITIONAL,
+        END_OF_PARTITION,
+        0,
+        0,
+    )
 }
 
 // Not all put: D/00/02, EOM.
@@ -70,5 +126,15 @@ pub fn overflowed(request: u32, actual: u32) -> Sense
     ensures { λ r. ⌜ r ≡ Act·overflowed (subℕ request actual) ⌝ }
 {
     let key = sense::VOLUME_OVERFLOW;
-    sense::told(true, false, true, false, key, 0x00, 0x02, request, actual)
+    sense::told(
+        true,
+        false,
+        true,
+        false,
+        key,
+        NO_ADDITIONAL,
+        END_OF_PARTITION,
+        request,
+        actual,
+    )
 }

@@ -1,9 +1,8 @@
 -- What document 01 says of its example E, and edges of the image beside it: computed from the definitions.
 -- Assumes nothing.
-use Prim.Native.Nat.{ℕ}
 use mathlib.Core.Bool.{true, false}
 use mathlib.Core.Path.{_≡_, refl}
-use mathlib.Core.List.{List, [], _∷_, _++_}
+use mathlib.Core.List.{[], _∷_, _++_}
 use lib.ListN.{replicate}
 use Rattle.words.specs.Words.{be, bytes, over}
 use Rattle.objects.specs.Object.{filemark, block}

@@ -19,7 +19,8 @@ use Rattle.commands.specs.Tests.{bytesAsked, fieldError, taken, replyLength, ne
 use Rattle.commands.specs.Step.{statusOf, keptOf, stopped, acted, unless, step}
 use Rattle.commands.specs.Call.{looksAt, seenOf, seen, inserted, laidOut, applied, stepOf, called, commandCall}
 use Rattle.commands.specs.Parameters.{blockLimits, modeData, listLengthKnown, headerRight, descriptorRight, listRight, shortPosition, longPosition}
-use Rattle.edges.specs.Cases.{Edges, cases, blank64, ten, filemarks}
+use Rattle.changes.specs.Least.{blank64}
+use Rattle.edges.specs.Cases.{Edges, cases, ten, filemarks}
 use Rattle.edges.specs.Traps.{Traps, traps, full, guarded}
 
 pub edges : Edges cases

@@ -8,7 +8,9 @@ use Rattle.answers.specs.Answers.{answered}
 use Rattle.words.specs.Words.{bytes, over, zeros}
 use Rattle.objects.specs.Object.{filemark, block}
 use Rattle.objects.specs.Events.{Event, put}
-use Rattle.changes.specs.Changes.{occurs, blank}
+use Rattle.changes.specs.Changes.{occurs}
+use Rattle.changes.specs.Least.{blank64}
+use Rattle.codes.specs.Six.{six}
 use Rattle.image.specs.Example.{E}
 use Rattle.commands.specs.Call.{lent, Result, result, commandCall}
 
@@ -32,19 +34,19 @@ abbrev pub recordAt : ℕ → ℕ → List ℕ → List ℕ
 recordAt position blockLength sense = (1 ∷ 1 ∷ 0 ∷ 0 ∷ []) ++ bytes 4 position ++ bytes 4 blockLength ++ sense
 
 -- eighteen sense bytes: byte 0, byte 2, information, ASC, ASCQ
-abbrev pub line : ℕ → ℕ → ℕ → ℕ → ℕ → List ℕ
-line b0 b2 information asc ascq = (b0 ∷ 0 ∷ b2 ∷ []) ++ bytes 4 information ++ (0x0A ∷ []) ++ zeros 4 ++ (asc ∷ ascq ∷ []) ++ zeros 4
+abbrev pub sense18 : ℕ → ℕ → ℕ → ℕ → ℕ → List ℕ
+sense18 b0 b2 information asc ascq = (b0 ∷ 0 ∷ b2 ∷ []) ++ bytes 4 information ++ (0x0A ∷ []) ++ zeros 4 ++ (asc ∷ ascq ∷ []) ++ zeros 4
 
 abbrev pub nothingKept : List ℕ
-nothingKept = line 0x70 0x00 0 0x00 0x00
+nothingKept = sense18 0x70 0x00 0 0x00 0x00
 
 -- the receiving buffer: sixteen bytes of FF, so that what is not carried shows
 abbrev pub buffer : List ℕ
 buffer = replicate 16 0xFF
 
 -- the whole call, and what is left by it
-abbrev pub called : Case → Result
-called c = commandCall (recordAt (c .from) (c .blockLength) nothingKept) (lent (c .command) (c .cartridge) [] (c .sent) buffer)
+abbrev pub callOf : Case → Result
+callOf c = commandCall (recordAt (c .from) (c .blockLength) nothingKept) (lent (c .command) (c .cartridge) [] (c .sent) buffer)
 
 abbrev pub expected : Case → Result
 expected c =
@@ -54,12 +56,9 @@ expected c =
 -- every case of a list is as expected
 unfoldable pub Edges : List Case → Type 0
 Edges [] = Unit {0}
-Edges (c ∷ cs) = (called c ≡ expected c) × Edges cs
+Edges (c ∷ cs) = (callOf c ≡ expected c) × Edges cs
 
 -- ---- the cartridges
-
-unfoldable pub blank64 : List ℕ
-blank64 = blank (replicate 64 0)
 
 -- after a 10-byte block
 unfoldable pub ten : List ℕ
@@ -67,15 +66,12 @@ ten = occurs (put 0 (block (replicate 10 9)) ∷ []) blank64
 
 -- ---- the commands
 
-abbrev pub six : ℕ → ℕ → ℕ → List ℕ
-six op byte1 n = (op ∷ byte1 ∷ []) ++ bytes 3 n ++ (0 ∷ [])
-
 abbrev pub locate : ℕ → List ℕ
 locate object = (0x2B ∷ 0 ∷ 0 ∷ []) ++ bytes 4 object ++ (0 ∷ 0 ∷ 0 ∷ [])
 
--- a row: in from, block length, cartridge, command, sent; out status, carried, sense, to, received, puts
-abbrev pub row : ℕ → ℕ → List ℕ → List ℕ → List ℕ → ℕ → ℕ → List ℕ → ℕ → List ℕ → List Event → Case
-row from blockLength cartridge command sent status carried sense to received puts =
+-- an edge: in from, block length, cartridge, command, sent; out status, carried, sense, to, received, puts
+abbrev pub edge : ℕ → ℕ → List ℕ → List ℕ → List ℕ → ℕ → ℕ → List ℕ → ℕ → List ℕ → List Event → Case
+edge from blockLength cartridge command sent status carried sense to received puts =
     record { from = from; blockLength = blockLength; cartridge = cartridge; command = command; sent = sent; status = status; carried = carried; sense = sense; to = to; received = received; puts = puts }
 
 -- n filemarks from number 1 on
@@ -88,31 +84,31 @@ filemarks (suc n) = filemarks n ++ put (suc n) filemark ∷ []
 unfoldable pub cases : List Case
 cases =
     -- P1 blank: WRITE 44: put, 0/00/02, information 0
-    row 0 0 blank64 (six 0x0A 0 44) (replicate 44 7) 2 44 (line 0xF0 0x40 0 0x00 0x02) 1 [] (put 0 (block (replicate 44 7)) ∷ []) ∷
+    edge 0 0 blank64 (six 0x0A 0 44) (replicate 44 7) 2 44 (sense18 0xF0 0x40 0 0x00 0x02) 1 [] (put 0 (block (replicate 44 7)) ∷ []) ∷
     -- P2 WRITE 45: D/00/02, information 45, N 0
-    row 0 0 blank64 (six 0x0A 0 45) (replicate 45 7) 2 0 (line 0xF0 0x4D 45 0x00 0x02) 0 [] [] ∷
+    edge 0 0 blank64 (six 0x0A 0 45) (replicate 45 7) 2 0 (sense18 0xF0 0x4D 45 0x00 0x02) 0 [] [] ∷
     -- P3 after a 10-byte block, filemarks: 7 GOOD
-    row 1 0 ten (six 0x10 0 7) [] 0 0 nothingKept 8 [] (filemarks 7) ∷
+    edge 1 0 ten (six 0x10 0 7) [] 0 0 nothingKept 8 [] (filemarks 7) ∷
     -- P4 8 put, zone
-    row 1 0 ten (six 0x10 0 8) [] 2 0 (line 0xF0 0x40 0 0x00 0x02) 9 [] (filemarks 8) ∷
+    edge 1 0 ten (six 0x10 0 8) [] 2 0 (sense18 0xF0 0x40 0 0x00 0x02) 9 [] (filemarks 8) ∷
     -- P5 9: 8 put, residue 1
-    row 1 0 ten (six 0x10 0 9) [] 2 0 (line 0xF0 0x4D 1 0x00 0x02) 9 [] (filemarks 8) ∷
+    edge 1 0 ten (six 0x10 0 9) [] 2 0 (sense18 0xF0 0x4D 1 0x00 0x02) 9 [] (filemarks 8) ∷
     -- P6 on E: READ 5 at 0: 3 bytes, ILI, 2
-    row 0 0 E (six 0x08 0 5) [] 2 3 (line 0xF0 0x20 2 0x00 0x00) 1 (1 ∷ 2 ∷ 3 ∷ []) [] ∷
+    edge 0 0 E (six 0x08 0 5) [] 2 3 (sense18 0xF0 0x20 2 0x00 0x00) 1 (1 ∷ 2 ∷ 3 ∷ []) [] ∷
     -- P7 READ 2 at 0: 2 bytes, FFFFFFFFh; with SILI GOOD
-    row 0 0 E (six 0x08 0 2) [] 2 2 (line 0xF0 0x20 0xFFFFFFFF 0x00 0x00) 1 (1 ∷ 2 ∷ []) [] ∷
-    row 0 0 E (six 0x08 2 2) [] 0 2 nothingKept 1 (1 ∷ 2 ∷ []) [] ∷
+    edge 0 0 E (six 0x08 0 2) [] 2 2 (sense18 0xF0 0x20 0xFFFFFFFF 0x00 0x00) 1 (1 ∷ 2 ∷ []) [] ∷
+    edge 0 0 E (six 0x08 2 2) [] 0 2 nothingKept 1 (1 ∷ 2 ∷ []) [] ∷
     -- P8 block length 3, FIXED 2 at 0: 3 bytes, filemark, residue 1, position 2
-    row 0 3 E (six 0x08 1 2) [] 2 3 (line 0xF0 0x80 1 0x00 0x01) 2 (1 ∷ 2 ∷ 3 ∷ []) [] ∷
+    edge 0 3 E (six 0x08 1 2) [] 2 3 (sense18 0xF0 0x80 1 0x00 0x01) 2 (1 ∷ 2 ∷ 3 ∷ []) [] ∷
     -- P9 block length 4, FIXED 2 at 0: ILI, 2, position 1
-    row 0 4 E (six 0x08 1 2) [] 2 0 (line 0xF0 0x20 2 0x00 0x00) 1 [] [] ∷
+    edge 0 4 E (six 0x08 1 2) [] 2 0 (sense18 0xF0 0x20 2 0x00 0x00) 1 [] [] ∷
     -- P10 SPACE blocks −5 at 2: F0 00 80 FF FF FF FB 0A, byte 13 01, position 1
-    row 2 0 E (six 0x11 0 0xFFFFFB) [] 2 0 (line 0xF0 0x80 0xFFFFFFFB 0x00 0x01) 1 [] [] ∷
+    edge 2 0 E (six 0x11 0 0xFFFFFB) [] 2 0 (sense18 0xF0 0x80 0xFFFFFFFB 0x00 0x01) 1 [] [] ∷
     -- P11 at 1: FFFFFFFCh, 0/00/04, position 0
-    row 1 0 E (six 0x11 0 0xFFFFFB) [] 2 0 (line 0xF0 0x40 0xFFFFFFFC 0x00 0x04) 0 [] [] ∷
+    edge 1 0 E (six 0x11 0 0xFFFFFB) [] 2 0 (sense18 0xF0 0x40 0xFFFFFFFC 0x00 0x04) 0 [] [] ∷
     -- P12 LOCATE 2 GOOD, 3 blank check at 2
-    row 0 0 E (locate 2) [] 0 0 nothingKept 2 [] [] ∷
-    row 0 0 E (locate 3) [] 2 0 (line 0x70 0x08 0 0x00 0x05) 2 [] [] ∷
+    edge 0 0 E (locate 2) [] 0 0 nothingKept 2 [] [] ∷
+    edge 0 0 E (locate 3) [] 2 0 (sense18 0x70 0x08 0 0x00 0x05) 2 [] [] ∷
     -- READ 5 at 1: residue 5, position 2
-    row 1 0 E (six 0x08 0 5) [] 2 0 (line 0xF0 0x80 5 0x00 0x01) 2 [] [] ∷
+    edge 1 0 E (six 0x08 0 5) [] 2 0 (sense18 0xF0 0x80 5 0x00 0x01) 2 [] [] ∷
     []

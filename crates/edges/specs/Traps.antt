@@ -13,7 +13,9 @@ use Rattle.objects.specs.Events.{put}
 use Rattle.changes.specs.Changes.{occurs, protect}
 use Rattle.image.specs.Example.{E}
 use Rattle.commands.specs.Call.{Lent, lent, Result, result, commandCall}
-use Rattle.edges.specs.Cases.{line, nothingKept, six, blank64, ten}
+use Rattle.codes.specs.Six.{six}
+use Rattle.changes.specs.Least.{blank64}
+use Rattle.edges.specs.Cases.{sense18, nothingKept, ten}
 
 pub record Trap : Type 0 where
   pub rec : List ℕ
@@ -35,12 +37,12 @@ bare attention blockLength sense = (0 ∷ 0 ∷ 0 ∷ attention ∷ []) ++ bytes
 
 -- key, ASC and ASCQ alone
 abbrev pub plain : ℕ → ℕ → ℕ → List ℕ
-plain key asc ascq = line 0x70 key 0 asc ascq
+plain key asc ascq = sense18 0x70 key 0 asc ascq
 
 -- ---- answers
 
-abbrev pub good : ℕ → Answer
-good carried = answered 0 carried
+abbrev pub goodAnswer : ℕ → Answer
+goodAnswer carried = answered 0 carried
 
 abbrev pub check : ℕ → Answer
 check carried = answered 2 carried
@@ -71,11 +73,11 @@ guarded = protect true E
 unfoldable pub traps : List Trap
 traps =
     -- a write that does not fit changes nothing, though it stands before an object
-    alone (loaded 0 0 0 nothingKept) (six 0x0A 0 45) ten (replicate 45 7) [] (check 0) (loaded 0 0 0 (line 0xF0 0x4D 45 0x00 0x02)) ten [] ∷
+    alone (loaded 0 0 0 nothingKept) (six 0x0A 0 45) ten (replicate 45 7) [] (check 0) (loaded 0 0 0 (sense18 0xF0 0x4D 45 0x00 0x02)) ten [] ∷
     -- on a full tape the room at 0 counts
-    alone (loaded 0 0 0 nothingKept) (six 0x0A 0 1) full (5 ∷ []) [] (good 1) (loaded 0 1 0 nothingKept) (occurs (put 0 (block (5 ∷ [])) ∷ []) full) [] ∷
+    alone (loaded 0 0 0 nothingKept) (six 0x0A 0 1) full (5 ∷ []) [] (goodAnswer 1) (loaded 0 1 0 nothingKept) (occurs (put 0 (block (5 ∷ [])) ∷ []) full) [] ∷
     -- REQUEST SENSE answers the waiting attention and not the old sense, and clears both
-    alone (loaded 0x28 0 0 (plain 5 0x24 0)) (six 0x03 0 0x12) E [] (zeros 18) (good 18) (loaded 0 0 0 nothingKept) E (plain 6 0x28 0) ∷
+    alone (loaded 0x28 0 0 (plain 5 0x24 0)) (six 0x03 0 0x12) E [] (zeros 18) (goodAnswer 18) (loaded 0 0 0 nothingKept) E (plain 6 0x28 0) ∷
     -- an attention comes before a code that is not served, and a short command before both
     turns (bare 0x29 0 nothingKept) (six 0x12 0 0) [] (check 0) (bare 0 0 (plain 6 0x29 0)) ∷
     refuses 1 (bare 0x29 0 nothingKept) (0x12 ∷ 0 ∷ 0 ∷ 0 ∷ 0 ∷ []) [] [] ∷
@@ -87,22 +89,22 @@ traps =
     turns (loaded 0 0 0 nothingKept) (six 0x0A 0 65537) guarded (check 0) (loaded 0 0 0 (plain 5 0x24 0)) ∷
     -- MODE SELECT: the list length before number 2; a block length that is no multiple of four
     turns (bare 0 0 nothingKept) (six 0x15 0x10 8) [] (check 0) (bare 0 0 (plain 5 0x1A 0)) ∷
-    alone (bare 0 0 nothingKept) (six 0x15 0x10 12) [] (9 ∷ 0 ∷ 0 ∷ 8 ∷ 0 ∷ 0 ∷ 0 ∷ 0 ∷ 9 ∷ 0 ∷ 0 ∷ 3 ∷ []) [] (good 12) (bare 0 3 nothingKept) [] [] ∷
+    alone (bare 0 0 nothingKept) (six 0x15 0x10 12) [] (9 ∷ 0 ∷ 0 ∷ 8 ∷ 0 ∷ 0 ∷ 0 ∷ 0 ∷ 9 ∷ 0 ∷ 0 ∷ 3 ∷ []) [] (goodAnswer 12) (bare 0 3 nothingKept) [] [] ∷
     alone (bare 0 7 nothingKept) (six 0x15 0x10 12) [] (0 ∷ 0 ∷ 0 ∷ 8 ∷ 0 ∷ 0 ∷ 0 ∷ 0 ∷ 0 ∷ 1 ∷ 0 ∷ 1 ∷ []) [] (check 0) (bare 0 7 (plain 5 0x26 0)) [] [] ∷
     -- LOCATE: a partition that is not there moves nothing; without CP the byte is ignored
     turns (loaded 0 1 0 nothingKept) (0x2B ∷ 2 ∷ 0 ∷ 0 ∷ 0 ∷ 0 ∷ 0 ∷ 0 ∷ 1 ∷ 0 ∷ []) E (check 0) (loaded 0 1 0 (plain 5 0x24 0)) ∷
-    turns (loaded 0 1 0 nothingKept) (0x2B ∷ 0 ∷ 0 ∷ 0 ∷ 0 ∷ 0 ∷ 0 ∷ 0 ∷ 0xFF ∷ 0 ∷ []) E (good 0) (loaded 0 0 0 nothingKept) ∷
+    turns (loaded 0 1 0 nothingKept) (0x2B ∷ 0 ∷ 0 ∷ 0 ∷ 0 ∷ 0 ∷ 0 ∷ 0 ∷ 0xFF ∷ 0 ∷ []) E (goodAnswer 0) (loaded 0 0 0 nothingKept) ∷
     -- products of 2^32 are refused by number
     refuses 3 (loaded 0 0 65536 nothingKept) (six 0x08 1 65536) E [] ∷
     refuses 2 (loaded 0 0 65536 nothingKept) (six 0x0A 1 65536) E [] ∷
     -- the least count there is
-    turns (loaded 0 2 0 nothingKept) (six 0x11 0 0x800000) E (check 0) (loaded 0 1 0 (line 0xF0 0x80 0xFF800000 0x00 0x01)) ∷
+    turns (loaded 0 2 0 nothingKept) (six 0x11 0 0x800000) E (check 0) (loaded 0 1 0 (sense18 0xF0 0x80 0xFF800000 0x00 0x01)) ∷
     -- nothing written and a move to end of data are GOOD inside the zone
-    turns (loaded 0 1 0 nothingKept) (six 0x0A 0 0) full (good 0) (loaded 0 1 0 nothingKept) ∷
-    turns (loaded 0 0 0 nothingKept) (six 0x11 3 5) full (good 0) (loaded 0 1 0 nothingKept) ∷
+    turns (loaded 0 1 0 nothingKept) (six 0x0A 0 0) full (goodAnswer 0) (loaded 0 1 0 nothingKept) ∷
+    turns (loaded 0 0 0 nothingKept) (six 0x11 3 5) full (goodAnswer 0) (loaded 0 1 0 nothingKept) ∷
     -- any kept sense is well formed, and is returned as it is
-    turns (loaded 0 0 0 (replicate 18 0xFF)) (six 0x00 0 0) E (good 0) (loaded 0 0 0 nothingKept) ∷
-    alone (loaded 0 0 0 (zeros 18)) (six 0x03 0 0x12) E [] (replicate 18 0xFF) (good 18) (loaded 0 0 0 nothingKept) E (zeros 18) ∷
+    turns (loaded 0 0 0 (replicate 18 0xFF)) (six 0x00 0 0) E (goodAnswer 0) (loaded 0 0 0 nothingKept) ∷
+    alone (loaded 0 0 0 (zeros 18)) (six 0x03 0 0x12) E [] (replicate 18 0xFF) (goodAnswer 18) (loaded 0 0 0 nothingKept) E (zeros 18) ∷
     -- both partitions count for number 4, also the one not current; with one partition the second slice is empty
     refuses 4 ((1 ∷ 2 ∷ 0 ∷ 0 ∷ []) ++ bytes 4 0 ++ bytes 4 0 ++ nothingKept) (six 0x08 0 5) E (zeros 64) ∷
     refuses 4 (loaded 0 0 0 nothingKept) (six 0x00 0 0) E E ∷
@@ -110,15 +112,15 @@ traps =
     -- REQUEST SENSE with a bad field leaves the attention waiting
     turns (bare 0x29 0 nothingKept) (0x03 ∷ 0 ∷ 1 ∷ 0 ∷ 18 ∷ 0 ∷ []) [] (check 0) (bare 0x29 0 (plain 5 0x24 0)) ∷
     -- the mode data's length does not count itself; protected shows
-    alone (loaded 0 0 3 nothingKept) (0x1A ∷ 8 ∷ 0x3F ∷ 0 ∷ 9 ∷ 0 ∷ []) guarded [] (zeros 4) (good 4) (loaded 0 0 3 nothingKept) guarded (3 ∷ 0 ∷ 0x80 ∷ 0 ∷ []) ∷
-    alone (loaded 0 0 3 nothingKept) (0x1A ∷ 0 ∷ 0 ∷ 0 ∷ 12 ∷ 0 ∷ []) E [] (replicate 13 0xFF) (good 12) (loaded 0 0 3 nothingKept) E (0x0B ∷ 0 ∷ 0 ∷ 8 ∷ 0 ∷ 0 ∷ 0 ∷ 0 ∷ 0 ∷ 0 ∷ 0 ∷ 3 ∷ 0xFF ∷ []) ∷
+    alone (loaded 0 0 3 nothingKept) (0x1A ∷ 8 ∷ 0x3F ∷ 0 ∷ 9 ∷ 0 ∷ []) guarded [] (zeros 4) (goodAnswer 4) (loaded 0 0 3 nothingKept) guarded (3 ∷ 0 ∷ 0x80 ∷ 0 ∷ []) ∷
+    alone (loaded 0 0 3 nothingKept) (0x1A ∷ 0 ∷ 0 ∷ 0 ∷ 12 ∷ 0 ∷ []) E [] (replicate 13 0xFF) (goodAnswer 12) (loaded 0 0 3 nothingKept) E (0x0B ∷ 0 ∷ 0 ∷ 8 ∷ 0 ∷ 0 ∷ 0 ∷ 0 ∷ 0 ∷ 0 ∷ 0 ∷ 3 ∷ 0xFF ∷ []) ∷
     -- WRITE FILEMARKS has no IMMED
     turns (loaded 0 2 0 nothingKept) (six 0x10 1 1) E (check 0) (loaded 0 2 0 (plain 5 0x24 0)) ∷
     -- ERASE with LONG zeroes up to the new D, the entries that are cut too
-    alone (loaded 0 0 0 nothingKept) (six 0x19 1 0) E [] [] (good 0) (loaded 0 0 0 nothingKept) (zeros 48 ++ bytes 4 0 ++ bytes 4 0 ++ bytes 4 48 ++ bytes 4 64) [] ∷
+    alone (loaded 0 0 0 nothingKept) (six 0x19 1 0) E [] [] (goodAnswer 0) (loaded 0 0 0 nothingKept) (zeros 48 ++ bytes 4 0 ++ bytes 4 0 ++ bytes 4 48 ++ bytes 4 64) [] ∷
     -- READ POSITION, long: one filemark before 2; READ BLOCK LIMITS needs no cartridge
-    alone (loaded 0 2 0 nothingKept) (six 0x34 6 0 ++ zeros 4) E [] (zeros 32) (good 32) (loaded 0 2 0 nothingKept) E (zeros 15 ++ (2 ∷ []) ++ zeros 7 ++ (1 ∷ []) ++ zeros 8) ∷
-    alone (bare 0 0 nothingKept) (six 0x05 0 0) [] [] (zeros 6) (good 6) (bare 0 0 nothingKept) [] (0 ∷ 1 ∷ 0 ∷ 0 ∷ 0 ∷ 1 ∷ []) ∷
+    alone (loaded 0 2 0 nothingKept) (six 0x34 6 0 ++ zeros 4) E [] (zeros 32) (goodAnswer 32) (loaded 0 2 0 nothingKept) E (zeros 15 ++ (2 ∷ []) ++ zeros 7 ++ (1 ∷ []) ++ zeros 8) ∷
+    alone (bare 0 0 nothingKept) (six 0x05 0 0) [] [] (zeros 6) (goodAnswer 6) (bare 0 0 nothingKept) [] (0 ∷ 1 ∷ 0 ∷ 0 ∷ 0 ∷ 1 ∷ []) ∷
     -- unload: partitions, current and position are 0, the block length stays
-    turns (loaded 0 2 9 nothingKept) (six 0x1B 0 0) E (good 0) (bare 0 9 nothingKept) ∷
+    turns (loaded 0 2 9 nothingKept) (six 0x1B 0 0) E (goodAnswer 0) (bare 0 9 nothingKept) ∷
     []

@@ -40,7 +40,7 @@ use Rattle.history.specs.History.{Slot, slot0, slot1, Cartridge, cartrid
 use Rattle.history.specs.Demand3.{NoFault}
 use Rattle.history.specs.Always.{Use, sends, mounts, protects, callsOf, recordUsed, AlwaysSo}
 use Rattle.laws.proofs.Faultless.{Cart, no-cart, one-part, two-parts, Well, well-test, fault-free, no-fault, empty-whole, inside, looks-in, seen-there, kept-whole}
-use Rattle.history.proofs.Ended.{Ended, by-number, by-sense, by-act, ended, calm-well}
+use Rattle.history.proofs.Ended.{Finished, by-number, by-sense, by-act, ended, calm-well}
 use Rattle.history.proofs.Acted.{writing-drive, marking-drive, idle, stepped, sees, place, turned, shaped, put-place}
 use Rattle.history.proofs.Told.{protect-turned}
 use Rattle.history.proofs.Moved.{Moves, current-in, moved-cart, moved-well, loaded-well, selected-well, reading-moves, spacing-moves, located-well}
@@ -138,7 +138,7 @@ pub command-faultless : (rec cmd p0 p1 sent received : List ℕ) → NoFault rec
 unfolding applied acted
 command-faultless rec cmd p0 p1 sent received h = go (ended rec cmd p0 p1 sent received)
   where
-    go : Ended rec cmd p0 p1 sent received → Faultless (commandCall rec (lent cmd p0 p1 sent received))
+    go : Finished rec cmd p0 p1 sent received → Faultless (commandCall rec (lent cmd p0 p1 sent received))
     go (by-number n k f e) = subst Faultless (sym e) h
     go (by-sense z f x b w p l e) = subst Faultless (sym e) (no-fault x b p0 p1 w l)
     go (by-act f w q e) =
@@ -154,7 +154,7 @@ pub never-four : (rec cmd p0 p1 sent received : List ℕ) → NoFault rec (cartr
 unfolding applied acted commandTests
 never-four rec cmd p0 p1 sent received h k = go (ended rec cmd p0 p1 sent received)
   where
-    go : Ended rec cmd p0 p1 sent received → ⊥
+    go : Finished rec cmd p0 p1 sent received → ⊥
     go (by-number n l f e) =
         let q : n ≡ 4 = sym (ap (λ (r : Result). r .answer .refusal) e) ∙ k in
         let t : not (wellRecord rec && inserted (decodeOf rec) p0 p1) ≡ true = (refused-4 rec (lent cmd p0 p1 sent received) .0 (f ∙ ap (λ (x : ℕ). some (refuse x)) q)) .1 in

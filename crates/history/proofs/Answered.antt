@@ -32,7 +32,7 @@ use Rattle.laws.proofs.Classes.{Class, blocks, filemarks, erasing, quiet, class
 use Rattle.history.specs.History.{isGood, caused}
 use Rattle.history.specs.Answered.{bytesPut, Answered}
 use Rattle.laws.proofs.Faultless.{back, place-small}
-use Rattle.history.proofs.Ended.{Ended, by-number, by-sense, by-act, ended, nothing-caused, fitting-first}
+use Rattle.history.proofs.Ended.{Finished, by-number, by-sense, by-act, ended, nothing-caused, fitting-first}
 use Rattle.history.proofs.Acted.{none-down, no-marks, acts-caused}
 
 -- ---- the bytes carried
@@ -178,7 +178,7 @@ module _ (rec cmd p0 p1 sent received : List ℕ) where
   unfolding applied acted withSense
   answered = go (ended rec cmd p0 p1 sent received)
     where
-      go : Ended rec cmd p0 p1 sent received → Answered rec cmd p0 p1 sent received
+      go : Finished rec cmd p0 p1 sent received → Answered rec cmd p0 p1 sent received
       go (by-number n h f e) = when-stopped _ f _ e (rw (ne-eqb n 0 (λ z. omega arith)) refl) refl refl
       go (by-sense s f x b w p l e) = when-stopped s f _ e refl refl (ap (λ (y : Drive). y .position) (back x b (place-small x p0 p1 (w .cart)) (w .small) l) ∙ p)
       go (by-act f w q e) = when-acted (operationOf (codeOf cmd)) refl f _ e refl (acts-caused rec (lent cmd p0 p1 sent received) w (operationOf (codeOf cmd)) q refl)

@@ -66,13 +66,13 @@ not-zero (suc n) h = omega arith
 
 -- ---- how a call ends
 
-pub data Ended (rec cmd p0 p1 sent received : List ℕ) : Type 0 where
-  by-number : (n : ℕ) → 0 < n → first (commandTests rec (lent cmd p0 p1 sent received)) ≡ some (refuse n) → commandCall rec (lent cmd p0 p1 sent received) ≡ result (refused n) rec (lent cmd p0 p1 sent received) → Ended rec cmd p0 p1 sent received
+pub data Finished (rec cmd p0 p1 sent received : List ℕ) : Type 0 where
+  by-number : (n : ℕ) → 0 < n → first (commandTests rec (lent cmd p0 p1 sent received)) ≡ some (refuse n) → commandCall rec (lent cmd p0 p1 sent received) ≡ result (refused n) rec (lent cmd p0 p1 sent received) → Finished rec cmd p0 p1 sent received
   by-sense : (s : Stop) → first (commandTests rec (lent cmd p0 p1 sent received)) ≡ some s → (e : Drive) (b : List ℕ) → Well e p0 p1 → e .position ≡ decodeOf rec .position → length b ≡ senseLength
-      → commandCall rec (lent cmd p0 p1 sent received) ≡ result checkAnswer (encodeOf (withSense e b)) (lent cmd p0 p1 sent received) → Ended rec cmd p0 p1 sent received
+      → commandCall rec (lent cmd p0 p1 sent received) ≡ result checkAnswer (encodeOf (withSense e b)) (lent cmd p0 p1 sent received) → Finished rec cmd p0 p1 sent received
   by-act : first (commandTests rec (lent cmd p0 p1 sent received)) ≡ none → Well (decodeOf rec) p0 p1 → first (tests (operationOf (codeOf cmd)) (decodeOf rec) cmd (seen (operationOf (codeOf cmd)) (decodeOf rec) (lent cmd p0 p1 sent received)) sent (length received)) ≡ none
       → commandCall rec (lent cmd p0 p1 sent received) ≡ written rec (applied (acted (operationOf (codeOf cmd)) (decodeOf rec) cmd sent (seen (operationOf (codeOf cmd)) (decodeOf rec) (lent cmd p0 p1 sent received))) (looksAt (operationOf (codeOf cmd)) (decodeOf rec) cmd) (lent cmd p0 p1 sent received))
-      → Ended rec cmd p0 p1 sent received
+      → Finished rec cmd p0 p1 sent received
 
 calm-cart : (d : Drive) (p0 p1 : List ℕ) → Cart d p0 p1 → Cart (unattended d) p0 p1
 calm-cart d p0 p1 (no-cart a b c e) = no-cart a b c e
@@ -82,7 +82,7 @@ calm-cart d p0 p1 (two-parts a b c s t f) = two-parts a b c s t f
 pub calm-well : (d : Drive) (p0 p1 : List ℕ) → Well d p0 p1 → Well (unattended d) p0 p1
 calm-well d p0 p1 w = record { attention = unfold attentionKnown in refl; small = w .small; cart = calm-cart d p0 p1 (w .cart) }
 
-pub ended : (rec cmd p0 p1 sent received : List ℕ) → Ended rec cmd p0 p1 sent received
+pub ended : (rec cmd p0 p1 sent received : List ℕ) → Finished rec cmd p0 p1 sent received
 ended rec cmd p0 p1 sent received = go (first (commandTests rec (lent cmd p0 p1 sent received))) refl
   where
     past-four : (s : Option Stop) → first (commandTests rec (lent cmd p0 p1 sent received)) ≡ s → (some (refuse 1) ≡ s → ⊥) → (some (refuse 4) ≡ s → ⊥)
@@ -95,7 +95,7 @@ ended rec cmd p0 p1 sent received = go (first (commandTests rec (lent cmd p0 p1 
     all : allNumbered (commandTests rec (lent cmd p0 p1 sent received)) ≡ true
     all = unfold commandTests tests allNumbered numbered in refl
 
-    go : (s : Option Stop) → first (commandTests rec (lent cmd p0 p1 sent received)) ≡ s → Ended rec cmd p0 p1 sent received
+    go : (s : Option Stop) → first (commandTests rec (lent cmd p0 p1 sent received)) ≡ s → Finished rec cmd p0 p1 sent received
     go none e =
         let x = past-four none e (λ q. let z : _≡_ {A = ℕ} 0 1 = cc in omega arith) (λ q. let z : _≡_ {A = ℕ} 0 1 = cc in omega arith) in
         by-act e (well (x .1)) (x .2) (call-acts rec (lent cmd p0 p1 sent received) e)

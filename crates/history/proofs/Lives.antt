@@ -28,7 +28,8 @@ use Rattle.history.specs.History.{after, caused, events, ends, past}
 use Rattle.history.specs.Demand3.{metOf, readings}
 use Rattle.history.specs.Tiles.{AllHarmless}
 use Rattle.history.specs.Always.{callsOf, recordUsed}
-use Rattle.history.specs.Lives.{blank64, uses, oneDrive, severalDrives, Computed}
+use Rattle.changes.specs.Least.{blank64}
+use Rattle.history.specs.Lives.{uses, oneDrive, severalDrives, Computed}
 
 pub computed : Computed
 unfolding blank64 uses oneDrive severalDrives AllHarmless callsOf recordUsed after caused events ends past metOf readings partsOf

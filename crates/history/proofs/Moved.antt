@@ -19,7 +19,7 @@ use Rattle.image.proofs.Facts.{Sound}
 use Rattle.record.specs.declared.drive.Drive.{Drive}
 use Rattle.record.specs.Record.{loadedAnew, unloaded}
 use Rattle.codes.specs.Fields.{fixedOf, transferOf, spaceCodeOf, spaceCountOf, objectOf, allocationOf, loadOf}
-use Rattle.objects.specs.Transfer.{Run, runOf, after, halted, oddLength}
+use Rattle.objects.specs.Transfer.{Run, runOf, wholeBefore, halted, oddLength}
 use Rattle.commands.specs.Parameters.{wholeLength, headerLength, headerRight, descriptorRight, listRight, newLength}
 use Rattle.commands.specs.Act.{Seen, Deed, good, checked, carrying, at, atPartition, withLength, hidden, reading, readVariable, movement, spacing, overBlocks, toEnd, targetOf, locating, selecting}
 use Rattle.commands.specs.Call.{partition}
@@ -117,7 +117,7 @@ run-within b (suc n) [] = zero-le
 run-within b (suc n) (filemark ∷ xs) = omega arith
 run-within b (suc n) (block bs ∷ xs) = go (eqb (length bs) b) (run-within b n xs)
   where
-    go : (t : Bool) → (runOf b n xs) .crossed ≤ length xs → (elim t as (λ x. Run) [ true ↦ after bs (runOf b n xs) | false ↦ halted 1 oddLength ]) .crossed ≤ suc (length xs)
+    go : (t : Bool) → (runOf b n xs) .crossed ≤ length xs → (elim t as (λ x. Run) [ true ↦ wholeBefore bs (runOf b n xs) | false ↦ halted 1 oddLength ]) .crossed ≤ suc (length xs)
     go true h = omega arith
     go false h = omega arith
 

@@ -21,7 +21,7 @@ use Rattle.image.proofs.Facts.{Sound, ordered-at, follows-size}
 use Rattle.image.proofs.Objects.{length-objects, object-is, object-data}
 use Rattle.sense.specs.declared.Sense.{Sense}
 use Rattle.sense.specs.Sense.{noSense, blankCheck, senseBytes, partsOf, reports, told}
-use Rattle.sense.proofs.RoundTrip.{Held, parts-made}
+use Rattle.sense.proofs.RoundTrip.{Spellable, parts-made}
 use Rattle.record.specs.declared.drive.Drive.{Drive}
 use Rattle.record.specs.Record.{noAttention, decodeOf, encodeOf, withSense}
 use Rattle.codes.specs.declared.operation.Operation.the-variants.{Read}
@@ -78,7 +78,7 @@ reads-so b rec p0 p1 sent received f l a r =
 
 -- ---- what its answer, sense and buffer tell
 
-told-held : (counts f e i : Bool) (key asc ascq : ℕ) (z : ℤ) → key < 16 → Held (told counts f e i key asc ascq z)
+told-held : (counts f e i : Bool) (key asc ascq : ℕ) (z : ℤ) → key < 16 → Spellable (told counts f e i key asc ascq z)
 unfolding told
 told-held counts f e i key asc ascq z h = record { key-small = h; information-small = go (reports counts key) }
   where
@@ -87,7 +87,7 @@ told-held counts f e i key asc ascq z h = record { key-small = h; information-sm
     go false = omega arith
 
 -- with CHECK CONDITION and a sense
-met-told : (d : Drive) (s : Sense) (n : ℕ) (x : Lent) → d .position < 2 ^ 32 → d .«block_length» ≤ largestBlock → Held s
+met-told : (d : Drive) (s : Sense) (n : ℕ) (x : Lent) → d .position < 2 ^ 32 → d .«block_length» ≤ largestBlock → Spellable s
     → metOf (result (answered checkCondition n) (encodeOf (withSense d (senseBytes s))) x)
     ≡ cond (says s blankCheck 0x00 0x05) endOfData
     (cond (says s noSense 0x00 0x01 && s .filemark) (object filemark)
@@ -133,11 +133,11 @@ asked false = refl
 -- ---- one read
 
 -- what lies ahead of a record's position on its current partition
-abbrev pub ahead : List ℕ → Cartridge → List Object
-ahead rec c = drop (decodeOf rec .position) (objects (partition (decodeOf rec .current) (c .part0) (c .part1)))
+abbrev pub liesAhead : List ℕ → Cartridge → List Object
+liesAhead rec c = drop (decodeOf rec .position) (objects (partition (decodeOf rec .current) (c .part0) (c .part1)))
 
 record Step (rec : List ℕ) (c : Cartridge) (r : Result) : Type 0 where
-  next : (n : ℕ) → metOf r ∷ meetings n (ahead (r .rec) (slicesLeft r)) ≡ meetings (suc n) (ahead rec c)
+  next : (n : ℕ) → metOf r ∷ meetings n (liesAhead (r .rec) (slicesLeft r)) ≡ meetings (suc n) (liesAhead rec c)
   loaded : decodeOf (r .rec) .loaded ≡ 1
   calm : decodeOf (r .rec) .attention ≡ noAttention
   same : slicesLeft r ≡ c
@@ -212,7 +212,7 @@ stays x rec c m =
     let s = step x rec c m in
     record { no-fault = command-faultless rec (readLargest (x .sili)) (c .part0) (c .part1) (x .sent) (x .received) (m .no-fault); loaded = s .loaded; no-attention = s .calm }
 
-pub meets-all : (xs : List Reading) (rec : List ℕ) (c : Cartridge) → Mounted rec c → readings xs rec c ≡ meetings (length xs) (ahead rec c)
+pub meets-all : (xs : List Reading) (rec : List ℕ) (c : Cartridge) → Mounted rec c → readings xs rec c ≡ meetings (length xs) (liesAhead rec c)
 unfolding readings
 meets-all [] rec c m = unfold meetings in refl
 meets-all (x ∷ xs) rec c m =

@@ -36,7 +36,7 @@ use Rattle.history.specs.History.{Slot, slot0, slot1, number, Cartridge,
 use Rattle.history.specs.Demand3.{meetings}
 use Rattle.history.specs.Tiles.{Kept, tileLength, tileOf, TileKept, MarkKept, Harmless, AllHarmless, Agree}
 use Rattle.history.proofs.Lists.{get-lt, get-getD}
-use Rattle.history.proofs.Ended.{Ended, by-number, by-sense, by-act, ended, nothing-offered}
+use Rattle.history.proofs.Ended.{Finished, by-number, by-sense, by-act, ended, nothing-offered}
 use Rattle.history.proofs.Answered.{puts-bytes, length-blocks, answered}
 use Rattle.history.proofs.Told.{told, still-sound, none-either, past-append}
 use Rattle.history.proofs.ReadBack.{meets}
@@ -230,7 +230,7 @@ pub refused-harmless : (l : Lending) (rec cmd sent received : List ℕ) (c : Car
 unfolding applied acted
 refused-harmless l rec cmd sent received c h = go (ended rec cmd (slices l c .part0) (slices l c .part1) sent received)
   where
-    go : Ended rec cmd (slices l c .part0) (slices l c .part1) sent received → Harmless (command l rec cmd sent received) c
+    go : Finished rec cmd (slices l c .part0) (slices l c .part1) sent received → Harmless (command l rec cmd sent received) c
     go (by-number n k f e) = inr (λ q. let z : _≡_ {A = ℕ} 0 1 = cc in omega arith)
     go (by-sense z f x b w p k e) = inr (λ q. let z : _≡_ {A = ℕ} 0 1 = cc in omega arith)
     go (by-act f w q e) = absurd (h (ap (λ (r : Result). r .answer .refusal) e))

@@ -27,7 +27,7 @@ use Rattle.commands.specs.Call.{lent, Result, result, commandCall}
 use Rattle.history.specs.History.{Slot, slot0, slot1, number, Cartridge, cartridge, part, MadeBlank, Lending, together, alone, Call, command, mount, protection, slicesLeft, after, caused, events, ends, past}
 use Rattle.laws.proofs.Faultless.{back, place-small}
 use Rattle.laws.proofs.Laid.{Turned, still}
-use Rattle.history.proofs.Ended.{Ended, by-number, by-sense, by-act, ended, nothing-caused}
+use Rattle.history.proofs.Ended.{Finished, by-number, by-sense, by-act, ended, nothing-caused}
 use Rattle.history.proofs.Acted.{acts, acts-turned, acts-caused}
 
 -- ---- a command, on the partition of each slot
@@ -47,7 +47,7 @@ pub shown : (s : Slot) (rec cmd p0 p1 sent received : List ℕ) → Sound (part 
 unfolding withSense
 shown s rec cmd p0 p1 sent received k = go (ended rec cmd p0 p1 sent received)
   where
-    go : Ended rec cmd p0 p1 sent received → Shown s rec cmd p0 p1 sent (commandCall rec (lent cmd p0 p1 sent received))
+    go : Finished rec cmd p0 p1 sent received → Shown s rec cmd p0 p1 sent (commandCall rec (lent cmd p0 p1 sent received))
     go (by-number n h f e) = subst (Shown s rec cmd p0 p1 sent) (sym e) (unchanged s rec cmd p0 p1 sent (result (refused n) rec (lent cmd p0 p1 sent received)) (nothing-caused rec cmd sent (result (refused n) rec (lent cmd p0 p1 sent received)) (rw (ne-eqb n 0 (λ z. omega arith)) refl) refl) refl k)
     go (by-sense z f x b w p l e) =
         subst (Shown s rec cmd p0 p1 sent) (sym e)

@@ -13,7 +13,7 @@ use Rattle.objects.specs.Object.{Object, filemark, block, largestBlock}
 use Rattle.objects.specs.Events.{Stands}
 use Rattle.image.specs.Image.{sound, objects}
 use Rattle.sense.specs.declared.Sense.{Sense}
-use Rattle.sense.specs.Sense.{noSense, blankCheck, partsOf}
+use Rattle.sense.specs.Sense.{noSense, blankCheck, noAdditional, unqualified, filemarkDetected, endOfDataDetected, partsOf}
 use Rattle.record.specs.Record.{noAttention, decodeOf, wellRecord}
 use Rattle.commands.specs.Call.{Result, inserted}
 use Rattle.history.specs.History.{Slot, number, Cartridge, part, together, Call, isGood, commanded, slicesLeft, ends, past}
@@ -65,9 +65,9 @@ metOf r =
     let b : Met = object (block (take (r .answer .carried) (r .lent .received))) in
     cond (not (eqb (r .answer .refusal) 0)) nothingKnown
     (cond (isGood (r .answer)) b
-    (cond (says t blankCheck 0x00 0x05) endOfData
-    (cond (says t noSense 0x00 0x01 && t .filemark) (object filemark)
-    (cond (says t noSense 0x00 0x00 && t .ili) b nothingKnown))))
+    (cond (says t blankCheck noAdditional endOfDataDetected) endOfData
+    (cond (says t noSense noAdditional filemarkDetected && t .filemark) (object filemark)
+    (cond (says t noSense noAdditional unqualified && t .ili) b nothingKnown))))
 
 -- one read after another, each on the record and the cartridge that the one before it left
 unfoldable pub readings : List Reading → List ℕ → Cartridge → List Met

@@ -11,7 +11,8 @@ use Rattle.words.specs.Words.{bytes, zeros}
 use Rattle.objects.specs.Object.{Object, filemark, block, largestBlock}
 use Rattle.objects.specs.Events.{Event, put, cut}
 use Rattle.image.specs.Image.{objects}
-use Rattle.changes.specs.Changes.{blank}
+use Rattle.changes.specs.Least.{blank64}
+use Rattle.codes.specs.Six.{six}
 use Rattle.record.specs.Record.{encodeOf, freshDrive}
 use Rattle.history.specs.History.{Slot, slot0, slot1, Cartridge, cartridge, part, MadeBlank, together, alone, Call, command, mount, protection, ends, past}
 use Rattle.history.specs.Demand3.{Mounted, AtBeginning, Reading, object, endOfData, readings, rewind}
@@ -33,37 +34,29 @@ pub record Said : Type 0 where
 abbrev pub TrueOf : Life → Said → Type 0
 TrueOf l x = (past (x .of) (l .calls) (l .made) ≡ x .events) × (objects (part (x .of) (ends (l .calls) (l .made))) ≡ x .left)
 
--- a partition of 64 bytes
-unfoldable pub blank64 : List ℕ
-blank64 = blank (zeros 64)
-
--- a command of six bytes: operation code, byte 1, bytes 2 to 4
-abbrev pub six : ℕ → ℕ → ℕ → List ℕ
-six op byte1 n = (op ∷ byte1 ∷ []) ++ bytes 3 n ++ (0 ∷ [])
-
-abbrev pub bare : List ℕ → Use
-bare cmd = sends cmd [] []
+abbrev pub plainUse : List ℕ → Use
+plainUse cmd = sends cmd [] []
 
 -- ---- one partition, one drive, from its fresh record on
 
 unfoldable pub uses : List Use
 uses =
     -- TEST UNIT READY answers the attention of the mount
-    mounts ∷ bare (six 0x00 0 0)
+    mounts ∷ plainUse (six 0x00 0 0)
     -- a block of five bytes and two filemarks
-    ∷ sends (six 0x0A 0 5) (9 ∷ 9 ∷ 9 ∷ 9 ∷ 9 ∷ []) [] ∷ bare (six 0x10 0 2)
+    ∷ sends (six 0x0A 0 5) (9 ∷ 9 ∷ 9 ∷ 9 ∷ 9 ∷ []) [] ∷ plainUse (six 0x10 0 2)
     -- protected, ERASE at the beginning is not done
-    ∷ protects slot0 true ∷ bare rewind ∷ bare (six 0x19 0 0) ∷ protects slot0 false
+    ∷ protects slot0 true ∷ plainUse rewind ∷ plainUse (six 0x19 0 0) ∷ protects slot0 false
     -- refused: WRITE with too little sent, an empty command
-    ∷ sends (six 0x0A 0 5) (9 ∷ []) [] ∷ bare []
+    ∷ sends (six 0x0A 0 5) (9 ∷ []) [] ∷ plainUse []
     -- three bytes over the five: all behind them is gone
     ∷ sends (six 0x0A 0 3) (1 ∷ 2 ∷ 3 ∷ []) []
     -- MODE SELECT of block length 2; two such blocks at once
     ∷ sends (0x15 ∷ 0x10 ∷ 0 ∷ 0 ∷ 12 ∷ 0 ∷ []) ((0 ∷ 0 ∷ 0 ∷ 8 ∷ []) ++ zeros 5 ++ bytes 3 2) [] ∷ sends (six 0x0A 1 2) (4 ∷ 5 ∷ 6 ∷ 7 ∷ []) []
     -- back over one of them; erased from there, and a filemark
-    ∷ bare (six 0x11 0 0xFFFFFF) ∷ bare (six 0x19 0 0) ∷ bare (six 0x10 0 1)
+    ∷ plainUse (six 0x11 0 0xFFFFFF) ∷ plainUse (six 0x19 0 0) ∷ plainUse (six 0x10 0 1)
     -- unloaded: a READ finds nothing. Mounted again; a second mount is refused
-    ∷ bare (six 0x1B 0 0) ∷ bare (six 0x08 0 1) ∷ mounts ∷ mounts ∷ bare (six 0x00 0 0)
+    ∷ plainUse (six 0x1B 0 0) ∷ plainUse (six 0x08 0 1) ∷ mounts ∷ mounts ∷ plainUse (six 0x00 0 0)
     ∷ []
 
 abbrev pub fresh : List ℕ
@@ -131,8 +124,8 @@ ofSecond = record {
 -- ---- the reads at the end
 
 -- each lent a buffer of 65,536 zeros
-abbrev pub reading : Reading
-reading = record { sili = false; sent = []; received = zeros largestBlock; room = omega (arith, length-replicate {A = ℕ} largestBlock 0) }
+abbrev pub readWith : Reading
+readWith = record { sili = false; sent = []; received = zeros largestBlock; room = omega (arith, length-replicate {A = ℕ} largestBlock 0) }
 
 -- ---- calls that lose nothing: an unload, a mount under another record, protection, a WRITE at a position that is not there
 
@@ -153,9 +146,9 @@ pub record Computed : Type 0 where
   pub mounted : Mounted (severalDrives .under) (ends (severalDrives .calls) (severalDrives .made))
   pub begins : AtBeginning slot1 (severalDrives .under)
   -- and what its reads meet
-  pub one-read : readings (reading ∷ reading ∷ reading ∷ reading ∷ []) (oneDrive .under) (ends (oneDrive .calls) (oneDrive .made))
+  pub one-read : readings (readWith ∷ readWith ∷ readWith ∷ readWith ∷ []) (oneDrive .under) (ends (oneDrive .calls) (oneDrive .made))
       ≡ object (block (1 ∷ 2 ∷ 3 ∷ [])) ∷ object (block (4 ∷ 5 ∷ [])) ∷ object filemark ∷ endOfData ∷ []
-  pub read : readings (reading ∷ reading ∷ []) (severalDrives .under) (ends (severalDrives .calls) (severalDrives .made)) ≡ object (block (5 ∷ 6 ∷ [])) ∷ endOfData ∷ []
+  pub read : readings (readWith ∷ readWith ∷ []) (severalDrives .under) (ends (severalDrives .calls) (severalDrives .made)) ≡ object (block (5 ∷ 6 ∷ [])) ∷ endOfData ∷ []
   -- the premises of the facility's sentences, too: tile 1 of a FIXED WRITE, the second of two filemarks, calls that lose nothing
   pub tile-put : TilePut slot0 (oneDrive .made) together (mountedAt 1 0 0 0 2) (six 0x0A 1 2) (4 ∷ 5 ∷ 6 ∷ 7 ∷ []) [] 1
   pub mark-put : MarkPut slot0 (oneDrive .made) together (mountedAt 1 0 0 0 0) (six 0x10 0 2) [] [] 1

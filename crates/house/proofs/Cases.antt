@@ -2,12 +2,12 @@
 -- Assumes nothing.
 use Prim.Native.Nat.{ℕ}
 use mathlib.Core.Bool.{Bool, true, false, not}
-use mathlib.Core.Path.{_≡_, refl, ap, _∙_}
+use mathlib.Core.Path.{_≡_, refl}
 use lib.ListN.{length}
 use mathlib.Core.List.{List}
 use borrow.Author.Tests.{eq-eqb, ne-eqb, not-true, not-false}
 use Rattle.answers.specs.declared.Answer.{Answer}
-use Rattle.answers.specs.Answers.{recordFault, Settled, settled, refused, done, wrongLength}
+use Rattle.answers.specs.Answers.{recordFault, settled, refused, done, wrongLength}
 use Rattle.image.specs.declared.part.Part.{Part}
 use Rattle.image.specs.Image.{rightLength}
 use Rattle.changes.specs.Changes.{blank, protect}

@@ -1,12 +1,10 @@
 -- The house services that alter an image: blank and protection (01, "Answers of a call").
 -- Assumes nothing: these are definitions.
-use Prim.Native.Nat.{ℕ, suc, _+_, _-_}
-use mathlib.Core.Bool.{Bool, cond, not, _&&_}
+use Prim.Native.Nat.{ℕ}
+use mathlib.Core.Bool.{Bool, cond, not}
 use mathlib.Core.List.{List}
-use lib.Dec.{eqb, ltb}
-use lib.Seq.{slice}
-use Rattle.answers.specs.Answers.{Settled, settled, refused, done, unsoundImage, wrongLength}
-use Rattle.image.specs.declared.part.Part.{Part}
+use lib.Dec.{eqb}
+use Rattle.answers.specs.Answers.{Settled, settled, refused, done, wrongLength}
 use Rattle.image.specs.Image.{rightLength, faultOf}
 use Rattle.changes.specs.Changes.{blank, protect}
 

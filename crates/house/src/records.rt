@@ -13,7 +13,7 @@ pub fn fresh(rec: &mut [u8]) -> Answer
     if rec.len() != record::RECORD_LENGTH {
         return answers::refused(answers::RECORD_FAULT);
     }
-    record::encode(record::fresh(), rec);
+    record::encode(record::fresh_drive(), rec);
     answers::done()
 }
 

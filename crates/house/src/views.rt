@@ -1,7 +1,5 @@
 // The view: the very part of a lent partition that holds a block. It never refuses.
 ghost use mathlib.Core.Path.{_≡_};
-ghost use Prim.Native.Nat.{_+_, _≤_};
-ghost use lib.ListN.{length};
 ghost use Rattle.house.specs.Views.{viewOf};
 ghost use Rattle.image.specs.Parts.{shown, placeOf};
 ghost use Rattle.house.specs.Views.{chosen, chosenPlace};

@@ -110,5 +110,5 @@ object-in s k i h =
     (ends-grow s i (i + 1) (omega arith) o, ends-in s k (i + 1) (omega arith))
 
 -- the part that the code takes
-pub taken : (s : List ℕ) (p q : Part) → p ≡ q → take (p .start + p .len - p .start) (drop (p .start) s) ≡ shown s q
-taken s p q e = part-is (p .start) (p .start + p .len) s (omega arith) ∙ ap (shown s) e
+pub part-taken : (s : List ℕ) (p q : Part) → p ≡ q → take (p .start + p .len - p .start) (drop (p .start) s) ≡ shown s q
+part-taken s p q e = part-is (p .start) (p .start + p .len) s (omega arith) ∙ ap (shown s) e

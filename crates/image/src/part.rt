@@ -1,7 +1,6 @@
 // Where a block lies in an image, and the very part that holds it.
 ghost use mathlib.Core.Path.{_≡_};
-ghost use Prim.Native.Nat.{_+_, _≤_};
-ghost use lib.ListN.{length};
+ghost use Prim.Native.Nat.{_+_};
 ghost use Rattle.image.specs.Parts.{partOf, shown, placeOf};
 ghost use Rattle.image.specs.Within.{Within};
 use crate::entries::count_of;

@@ -4,7 +4,7 @@
 use Prim.Native.Nat.{ℕ, zero, suc, _<_}
 use mathlib.Core.Path.{_≡_, refl, ap, _∙_, subst}
 use mathlib.Core.Logic.{_↔_}
-use mathlib.Core.Bool.{Bool, true, false, cond, not}
+use mathlib.Core.Bool.{Bool, true, false, cond}
 use mathlib.Core.Option.{Option, none, some}
 use mathlib.Core.List.{List, [], _∷_}
 use native.Mathlib.Omega.{arith}
@@ -43,17 +43,17 @@ first-at [] k h = absurd h
 first-at (t ∷ ts) zero h = rw h refl
 first-at (t ∷ ts) (suc k) h = rw (h .0) (first-at ts k (h .1))
 
-pub record Held (ts : List (Bool × Stop)) (s : Stop) : Type 0 where
+pub record HeldAt (ts : List (Bool × Stop)) (s : Stop) : Type 0 where
   pub at : ℕ
   pub holds : FirstAt ts at
   pub says : stopAt ts at ≡ some s
 
-pub held : (ts : List (Bool × Stop)) (s : Stop) → first ts ≡ some s → Held ts s
+pub held : (ts : List (Bool × Stop)) (s : Stop) → first ts ≡ some s → HeldAt ts s
 unfolding first
 held [] s e = absurd (let z : _≡_ {A = ℕ} 0 1 = cc in omega arith)
 held (t ∷ ts) s e = go (t .0) refl e (held ts s)
   where
-    go : (b : Bool) → t .0 ≡ b → cond b (some (t .1)) (first ts) ≡ some s → (first ts ≡ some s → Held ts s) → Held (t ∷ ts) s
+    go : (b : Bool) → t .0 ≡ b → cond b (some (t .1)) (first ts) ≡ some s → (first ts ≡ some s → HeldAt ts s) → HeldAt (t ∷ ts) s
     go true q e ih = record { at = 0; holds = q; says = e }
     go false q e ih = let h = ih e in record { at = suc (h .at); holds = (q, h .holds); says = h .says }
 
@@ -71,10 +71,10 @@ same-way true p = refl
 same-way false p = refl
 
 -- the slices as they were
-abbrev pub halted : Stop → Drive → Lent → Outcome
-halted s d x = outcome (stopped s d .answer) (stopped s d .drive) x
+abbrev pub stoppedAt : Stop → Drive → Lent → Outcome
+stoppedAt s d x = outcome (stopped s d .answer) (stopped s d .drive) x
 
-quiet : (s : Stop) (d : Drive) (k : ℕ) (x : Lent) → applied (stopped s d) k x ≡ halted s d x
+quiet : (s : Stop) (d : Drive) (k : ℕ) (x : Lent) → applied (stopped s d) k x ≡ stoppedAt s d x
 unfolding applied stopped laidOut occurs
 quiet (refuse n) d k x = rw (same-way (eqb k 1) (x .part0), same-way (eqb k 1) (x .part1), over-nil (x .received) 0) refl
 quiet attend d k x = rw (same-way (eqb k 1) (x .part0), same-way (eqb k 1) (x .part1), over-nil (x .received) 0) refl
@@ -88,32 +88,32 @@ module _ (d : Drive) (x : Lent) where
   Tests = tests (operationOf (codeOf (x .cmd))) d (x .cmd) (seen (operationOf (codeOf (x .cmd))) d x) (x .sent) (length (x .received))
 
   -- what the act makes of the slices
-  abbrev pub Acts : Outcome
-  Acts = applied (acted (operationOf (codeOf (x .cmd))) d (x .cmd) (x .sent) (seen (operationOf (codeOf (x .cmd))) d x)) (looksAt (operationOf (codeOf (x .cmd))) d (x .cmd)) x
+  abbrev pub ActedOn : Outcome
+  ActedOn = applied (acted (operationOf (codeOf (x .cmd))) d (x .cmd) (x .sent) (seen (operationOf (codeOf (x .cmd))) d x)) (looksAt (operationOf (codeOf (x .cmd))) d (x .cmd)) x
 
-  pub step-stops : (s : Stop) → first Tests ≡ some s → stepOf d x ≡ halted s d x
+  pub step-stops : (s : Stop) → first Tests ≡ some s → stepOf d x ≡ stoppedAt s d x
   unfolding stepOf step unless
   step-stops s e = rw e (quiet s d (looksAt o d (x .cmd)) x)
 
-  pub step-acts : first Tests ≡ none → stepOf d x ≡ Acts
+  pub step-acts : first Tests ≡ none → stepOf d x ≡ ActedOn
   unfolding stepOf step unless
   step-acts e = rw e refl
 
 -- ---- the refusals of a command
 
 -- which test gives each: 1, 4, 2, 3
-abbrev pub placeOf : ℕ → ℕ
-placeOf n = cond (eqb n 1) 0 (cond (eqb n 4) 1 (cond (eqb n 2) 9 10))
+abbrev pub rowNumber : ℕ → ℕ
+rowNumber n = cond (eqb n 1) 0 (cond (eqb n 4) 1 (cond (eqb n 2) 9 10))
 
 same-number : (a n : ℕ) → some (refuse a) ≡ some (refuse n) → a ≡ n
 same-number a n e = cc
 
 module _ (rec : List ℕ) (x : Lent) where
   -- no other test gives it
-  only : (j n : ℕ) → stopAt (commandTests rec x) j ≡ some (refuse n) → j ≡ placeOf n
+  only : (j n : ℕ) → stopAt (commandTests rec x) j ≡ some (refuse n) → j ≡ rowNumber n
   unfolding commandTests tests
-  only zero n e = ap placeOf (same-number 1 n e)
-  only (suc zero) n e = ap placeOf (same-number 4 n e)
+  only zero n e = ap rowNumber (same-number 1 n e)
+  only (suc zero) n e = ap rowNumber (same-number 4 n e)
   only (suc (suc zero)) n e = cc
   only (suc (suc (suc zero))) n e = cc
   only (suc (suc (suc (suc zero)))) n e = cc
@@ -121,8 +121,8 @@ module _ (rec : List ℕ) (x : Lent) where
   only (suc (suc (suc (suc (suc (suc zero)))))) n e = cc
   only (suc (suc (suc (suc (suc (suc (suc zero))))))) n e = cc
   only (suc (suc (suc (suc (suc (suc (suc (suc zero)))))))) n e = cc
-  only (suc (suc (suc (suc (suc (suc (suc (suc (suc zero))))))))) n e = ap placeOf (same-number 2 n e)
-  only (suc (suc (suc (suc (suc (suc (suc (suc (suc (suc zero)))))))))) n e = ap placeOf (same-number 3 n e)
+  only (suc (suc (suc (suc (suc (suc (suc (suc (suc zero))))))))) n e = ap rowNumber (same-number 2 n e)
+  only (suc (suc (suc (suc (suc (suc (suc (suc (suc (suc zero)))))))))) n e = ap rowNumber (same-number 3 n e)
   only (suc (suc (suc (suc (suc (suc (suc (suc (suc (suc (suc j))))))))))) n e = cc
 
   -- "command block empty, or shorter than its length"
@@ -148,31 +148,31 @@ module _ (rec : List ℕ) (x : Lent) where
   -- ---- what the call leaves
 
   -- a refusal by number leaves every byte
-  pub refused-leaves : (n : ℕ) → 0 < n → written rec (halted (refuse n) (decodeOf rec) x) ≡ result (refused n) rec x
+  pub refused-leaves : (n : ℕ) → 0 < n → written rec (stoppedAt (refuse n) (decodeOf rec) x) ≡ result (refused n) rec x
   unfolding stopped
   refused-leaves n h = rw (ne-eqb n 0 (λ e. omega arith)) refl
 
   -- where the list stops it, the call leaves what the stop leaves
-  pub call-stops : (s : Stop) → first (commandTests rec x) ≡ some s → commandCall rec x ≡ written rec (halted s (decodeOf rec) x)
+  pub call-stops : (s : Stop) → first (commandTests rec x) ≡ some s → commandCall rec x ≡ written rec (stoppedAt s (decodeOf rec) x)
   unfolding commandCall commandTests called
   call-stops s e = ap (written rec) (go (tooShort (x .cmd)) (faulty (wellRecord rec) (decodeOf rec) x) e)
     where
-      short : (n : ℕ) → refuse n ≡ s → outcome (refused n) (decodeOf rec) x ≡ halted s (decodeOf rec) x
-      short n q = subst (λ (t : Stop). outcome (refused n) (decodeOf rec) x ≡ halted t (decodeOf rec) x) q (unfold stopped in refl)
+      short : (n : ℕ) → refuse n ≡ s → outcome (refused n) (decodeOf rec) x ≡ stoppedAt s (decodeOf rec) x
+      short n q = subst (λ (t : Stop). outcome (refused n) (decodeOf rec) x ≡ stoppedAt t (decodeOf rec) x) q (unfold stopped in refl)
 
       go : (a b : Bool) → first ((a, refuse commandShort) ∷ (b, refuse recordFault) ∷ Tests (decodeOf rec) x) ≡ some s
-          → cond a (outcome (refused commandShort) (decodeOf rec) x) (cond b (outcome (refused recordFault) (decodeOf rec) x) (stepOf (decodeOf rec) x)) ≡ halted s (decodeOf rec) x
+          → cond a (outcome (refused commandShort) (decodeOf rec) x) (cond b (outcome (refused recordFault) (decodeOf rec) x) (stepOf (decodeOf rec) x)) ≡ stoppedAt s (decodeOf rec) x
       go true b e = unfold first in short commandShort cc
       go false true e = unfold first in short recordFault cc
       go false false e = unfold first in step-stops (decodeOf rec) x s e
 
   -- and where no test holds, it acts
-  pub call-acts : first (commandTests rec x) ≡ none → commandCall rec x ≡ written rec (Acts (decodeOf rec) x)
+  pub call-acts : first (commandTests rec x) ≡ none → commandCall rec x ≡ written rec (ActedOn (decodeOf rec) x)
   unfolding commandCall commandTests called
   call-acts e = ap (written rec) (go (tooShort (x .cmd)) (faulty (wellRecord rec) (decodeOf rec) x) e)
     where
       go : (a b : Bool) → first ((a, refuse commandShort) ∷ (b, refuse recordFault) ∷ Tests (decodeOf rec) x) ≡ none
-          → cond a (outcome (refused commandShort) (decodeOf rec) x) (cond b (outcome (refused recordFault) (decodeOf rec) x) (stepOf (decodeOf rec) x)) ≡ Acts (decodeOf rec) x
+          → cond a (outcome (refused commandShort) (decodeOf rec) x) (cond b (outcome (refused recordFault) (decodeOf rec) x) (stepOf (decodeOf rec) x)) ≡ ActedOn (decodeOf rec) x
       go true b e = absurd (unfold first in let z : _≡_ {A = ℕ} 0 1 = cc in omega arith)
       go false true e = absurd (unfold first in let z : _≡_ {A = ℕ} 0 1 = cc in omega arith)
       go false false e = unfold first in step-acts (decodeOf rec) x e

@@ -15,7 +15,7 @@ use Rattle.objects.specs.Object.{Object, block, dataOf, bytesIn, largestBlock}
 use Rattle.objects.specs.Room.{trailerLength, entryLength, roomOf, fitsIn}
 use Rattle.objects.specs.Events.{Event, put, cut, happen, happens}
 use Rattle.objects.proofs.Count.{bytes-snoc}
-use Rattle.changes.proofs.Placed.{Kept}
+use Rattle.changes.proofs.Placed.{Holdable}
 use Rattle.record.specs.declared.drive.Drive.{Drive}
 use Rattle.codes.specs.declared.operation.Operation.{Operation}
 use Rattle.codes.specs.declared.operation.Operation.the-variants.{Write, WriteFilemarks}
@@ -23,7 +23,7 @@ use Rattle.codes.specs.Codes.{codeOf, operationOf}
 use Rattle.codes.specs.Fields.{fixedOf, transferOf}
 use Rattle.objects.specs.Transfer.{blocksOf, fitting, putFrom}
 use Rattle.objects.proofs.Fitting.{fitting-more, fitting-none}
-use Rattle.changes.proofs.Down.{AllKept, marks-kept, blocks-kept}
+use Rattle.changes.proofs.Down.{AllHoldable, marks-kept, blocks-kept}
 use Rattle.commands.specs.Stop.{Stop, refuse, attend, fault, first}
 use Rattle.commands.specs.Kinds.{needsCartridge}
 use Rattle.commands.specs.Act.{Seen, offered, goesDown, eventsOf}
@@ -37,7 +37,7 @@ use Rattle.laws.proofs.Classes.{Class, blocks, filemarks, erasing, quie
 -- ---- an event on the objects xs that has room in l bytes
 
 abbrev pub Goes : ℕ → Event → List Object → Type 0
-Goes l (put n o) xs = (n ≤ length xs) × Kept o × (entryLength * n + bytesIn (take n xs) + entryLength + length (dataOf o) ≤ l)
+Goes l (put n o) xs = (n ≤ length xs) × Holdable o × (entryLength * n + bytesIn (take n xs) + entryLength + length (dataOf o) ≤ l)
 Goes l (cut n) xs = n ≤ length xs
 
 unfoldable pub GoAll : ℕ → List Event → List Object → Type 0
@@ -60,13 +60,13 @@ unfolding happens putFrom
 puts-reach p [] xs h = omega arith
 puts-reach p (o ∷ os) xs h = omega (arith, puts-reach (suc p) os (happen (put p o) xs) (omega (arith, next-length p o xs h)))
 
-fit-goes : (l : ℕ) (os : List Object) (p : ℕ) (xs : List Object) → p ≤ length xs → AllKept os → GoAll (l - trailerLength) (putFrom p (fitting l p (bytesIn (take p xs)) os)) xs
-unfolding AllKept GoAll putFrom fitting
+fit-goes : (l : ℕ) (os : List Object) (p : ℕ) (xs : List Object) → p ≤ length xs → AllHoldable os → GoAll (l - trailerLength) (putFrom p (fitting l p (bytesIn (take p xs)) os)) xs
+unfolding AllHoldable GoAll putFrom fitting
 fit-goes l [] p xs h a = tt
 fit-goes l (o ∷ os) p xs h a = go (fitsIn (roomOf l p (bytesIn (take p xs))) (length (dataOf o))) refl (fit-goes l os (suc p) (happen (put p o) xs))
   where
     go : (t : Bool) → fitsIn (roomOf l p (bytesIn (take p xs))) (length (dataOf o)) ≡ t
-        → (suc p ≤ length (happen (put p o) xs) → AllKept os → GoAll (l - trailerLength) (putFrom (suc p) (fitting l (suc p) (bytesIn (take (suc p) (happen (put p o) xs))) os)) (happen (put p o) xs))
+        → (suc p ≤ length (happen (put p o) xs) → AllHoldable os → GoAll (l - trailerLength) (putFrom (suc p) (fitting l (suc p) (bytesIn (take (suc p) (happen (put p o) xs))) os)) (happen (put p o) xs))
         → GoAll (l - trailerLength) (putFrom p (fitting l p (bytesIn (take p xs)) (o ∷ os))) xs
     go false e i = subst (λ (fs : List Object). GoAll (l - trailerLength) (putFrom p fs) xs) (sym (fitting-none l p (bytesIn (take p xs)) o os e)) tt
     go true e i =
@@ -78,19 +78,19 @@ fit-goes l (o ∷ os) p xs h a = go (fitsIn (roomOf l p (bytesIn (take p xs))) (
 -- ---- what WRITE offers may be held
 
 one-kept : (d : Drive) (cmd sent : List ℕ) → fieldError Write d cmd ≡ false → taken Write d cmd ≤ length sent → fixedOf cmd ≡ false
-    → (z : Bool) → eqb (transferOf cmd) 0 ≡ z → AllKept (cond z [] (block (take (transferOf cmd) sent) ∷ []))
-unfolding AllKept taken
+    → (z : Bool) → eqb (transferOf cmd) 0 ≡ z → AllHoldable (cond z [] (block (take (transferOf cmd) sent) ∷ []))
+unfolding AllHoldable taken
 one-kept d cmd sent w q f true e = tt
 one-kept d cmd sent w q f false e =
     let x = one-field d cmd sent (transferOf cmd) refl w q f (eqb-false (transferOf cmd) 0 e) in
     let m = length-take-le (transferOf cmd) sent (omega (arith, x .2)) in
     ((omega (arith, x .0), omega (arith, x .1)), tt)
 
-blocks-offered : (d : Drive) (cmd sent : List ℕ) → d .«block_length» ≤ largestBlock → fieldError Write d cmd ≡ false → taken Write d cmd ≤ length sent → AllKept (offered Write d cmd sent)
+blocks-offered : (d : Drive) (cmd sent : List ℕ) → d .«block_length» ≤ largestBlock → fieldError Write d cmd ≡ false → taken Write d cmd ≤ length sent → AllHoldable (offered Write d cmd sent)
 unfolding offered
 blocks-offered d cmd sent b w q = go (fixedOf cmd) refl
   where
-    go : (f : Bool) → fixedOf cmd ≡ f → AllKept (cond f (blocksOf (d .«block_length») (transferOf cmd) sent) (cond (eqb (transferOf cmd) 0) [] (block (take (transferOf cmd) sent) ∷ [])))
+    go : (f : Bool) → fixedOf cmd ≡ f → AllHoldable (cond f (blocksOf (d .«block_length») (transferOf cmd) sent) (cond (eqb (transferOf cmd) 0) [] (block (take (transferOf cmd) sent) ∷ [])))
     go true e = let x = fixed-fields d cmd sent (transferOf cmd) refl w (unfold taken in q) e in blocks-kept (d .«block_length») (transferOf cmd) sent (x .0) b (x .1)
     go false e = one-kept d cmd sent w q e (eqb (transferOf cmd) 0) refl
 

@@ -1,25 +1,24 @@
 -- What a command knows when no test has stopped it: each row of the list is false.
 -- Assumes nothing.
-use Prim.Native.Nat.{ℕ, zero, suc, _*_, _≤_}
+use Prim.Native.Nat.{ℕ, _≤_}
 use native.Mathlib.Omega.{arith}
 use mathlib.Core.Path.{_≡_, refl}
 use mathlib.Core.Bool.{Bool, true, false, cond, not, _&&_, _||_}
 use mathlib.Core.Option.{none, some}
 use mathlib.Core.List.{List, [], _∷_}
-use borrow.Author.Tests.{eqb-false, ltb-false, not-false}
+use borrow.Author.Tests.{ltb-false, not-false}
 use lib.Dec.{eqb, leb}
 use lib.ListN.{length}
-use Rattle.objects.specs.Object.{largestBlock}
 use Rattle.record.specs.declared.drive.Drive.{Drive}
 use Rattle.codes.specs.declared.operation.Operation.{Operation}
-use Rattle.codes.specs.declared.operation.Operation.the-variants.{Write, ModeSelect}
+use Rattle.codes.specs.declared.operation.Operation.the-variants.{ModeSelect}
 use Rattle.codes.specs.Codes.{masksHold}
-use Rattle.codes.specs.Fields.{fixedOf, transferOf, allocationOf, changesPartition, partitionOf}
+use Rattle.codes.specs.Fields.{allocationOf, changesPartition, partitionOf}
 use Rattle.commands.specs.Parameters.{listLengthKnown}
 use Rattle.commands.specs.Stop.{Stop, first}
 use Rattle.commands.specs.Kinds.{among, isServed, needsCartridge, locates}
 use Rattle.commands.specs.Act.{Seen}
-use Rattle.commands.specs.Tests.{bytesAsked, tests, taken, needed, fieldError}
+use Rattle.commands.specs.Tests.{tests, taken, needed, fieldError}
 
 -- none of the tests holds
 abbrev pub AllFalse : List (Bool × Stop) → Type 0

@@ -12,20 +12,20 @@ abbrev pub Ends : List Object → Code → ℤ → ℕ → ℕ → Why → ℤ �
 Ends xs c k p q w r = ((space c k p xs) .to ≡ q) × ((space c k p xs) .why ≡ w) × (residue k (space c k p xs) ≡ r)
 
 -- the cartridge E of 01: a block of three bytes and a filemark
-abbrev pub E : List Object
-E = block (1 ∷ 2 ∷ 3 ∷ []) ∷ filemark ∷ []
+abbrev pub objectsOfE : List Object
+objectsOfE = block (1 ∷ 2 ∷ 3 ∷ []) ∷ filemark ∷ []
 
 -- two blocks, a filemark, a block, a filemark
 abbrev pub bbfbf : List Object
 bbfbf = block (1 ∷ []) ∷ block (2 ∷ []) ∷ filemark ∷ block (3 ∷ []) ∷ filemark ∷ []
 
 -- P10: back over a filemark ends before it, and counts nothing
-pub blocks-back-marked : Ends E blocks (negsuc 4) 2 1 marked (negsuc 4)
+pub blocks-back-marked : Ends objectsOfE blocks (negsuc 4) 2 1 marked (negsuc 4)
 unfolding space walk before ahead astern residue
 blocks-back-marked = (refl, refl, refl)
 
 -- P11: back to the beginning counts the block
-pub blocks-back-edge : Ends E blocks (negsuc 4) 1 0 edge (negsuc 3)
+pub blocks-back-edge : Ends objectsOfE blocks (negsuc 4) 1 0 edge (negsuc 3)
 unfolding space walk before ahead astern residue
 blocks-back-edge = (refl, refl, refl)
 
@@ -47,6 +47,6 @@ unfolding space walk before ahead astern residue
 filemarks-on-edge = (refl, refl, refl)
 
 -- the largest count of 64 bits: the walk ends with the objects, whatever the count
-pub blocks-on-largest : Ends E blocks (pos (2 ^ 63 - 1)) 0 2 marked (pos (2 ^ 63 - 2))
+pub blocks-on-largest : Ends objectsOfE blocks (pos (2 ^ 63 - 1)) 0 2 marked (pos (2 ^ 63 - 2))
 unfolding space walk before ahead astern residue
 blocks-on-largest = (refl, refl, refl)

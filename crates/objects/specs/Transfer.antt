@@ -26,15 +26,15 @@ abbrev pub halted : ℕ → Ended → Run
 halted crossed why = record { blocks = 0; bytes = []; crossed = crossed; why = why }
 
 -- one whole block before r
-abbrev pub after : List ℕ → Run → Run
-after bs r = record { blocks = suc (r .blocks); bytes = bs ++ r .bytes; crossed = suc (r .crossed); why = r .why }
+abbrev pub wholeBefore : List ℕ → Run → Run
+wholeBefore bs r = record { blocks = suc (r .blocks); bytes = bs ++ r .bytes; crossed = suc (r .crossed); why = r .why }
 
 -- n blocks of length b from what lies ahead: one of another length carries none of its bytes, and is crossed; so is a filemark
 unfoldable pub runOf : ℕ → ℕ → List Object → Run
 runOf b zero xs = halted 0 whole
 runOf b (suc n) [] = halted 0 atEnd
 runOf b (suc n) (filemark ∷ xs) = halted 1 atFilemark
-runOf b (suc n) (block bs ∷ xs) = elim (eqb (length bs) b) [ true ↦ after bs (runOf b n xs) | false ↦ halted 1 oddLength ]
+runOf b (suc n) (block bs ∷ xs) = elim (eqb (length bs) b) [ true ↦ wholeBefore bs (runOf b n xs) | false ↦ halted 1 oddLength ]
 
 -- ---- writing: "Objects go down while each fits by the room at its own number, the first at the position"
 

@@ -39,8 +39,8 @@ module _ (o : Operation) (d : Drive) (cmd : List ℕ) (a : Bool) (ea : a ≡ amo
 -- ---- needed: a choice of two numbers, by a test that the code makes
 
 module _ (n x y : ℕ) (b t : Bool) (e : b ≡ t) where
-  pub chosen : b ≡ true → n ≡ x → n ≡ cond t x y
-  chosen h q = rw (← e, h) q
+  pub picked : b ≡ true → n ≡ x → n ≡ cond t x y
+  picked h q = rw (← e, h) q
 
   pub other : b ≡ false → n ≡ y → n ≡ cond t x y
   other h q = rw (← e, h) q

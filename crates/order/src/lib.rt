@@ -54,19 +54,39 @@ fn stop_of_served(
     let takes = taken(o, d, cmd);
     let needs = needed(o, d, cmd);
     if field {
-        return Stop::Fault(sense::ILLEGAL_REQUEST, 0x24, 0x00);
+        return Stop::Fault(
+            sense::ILLEGAL_REQUEST,
+            sense::INVALID_FIELD,
+            sense::UNQUALIFIED,
+        );
     }
     if list {
-        return Stop::Fault(sense::ILLEGAL_REQUEST, 0x1a, 0x00);
+        return Stop::Fault(
+            sense::ILLEGAL_REQUEST,
+            sense::LIST_LENGTH_ERROR,
+            sense::UNQUALIFIED,
+        );
     }
     if empty {
-        return Stop::Fault(sense::NOT_READY, 0x3a, 0x00);
+        return Stop::Fault(
+            sense::NOT_READY,
+            sense::MEDIUM_NOT_PRESENT,
+            sense::UNQUALIFIED,
+        );
     }
     if target {
-        return Stop::Fault(sense::ILLEGAL_REQUEST, 0x24, 0x00);
+        return Stop::Fault(
+            sense::ILLEGAL_REQUEST,
+            sense::INVALID_FIELD,
+            sense::UNQUALIFIED,
+        );
     }
     if protected {
-        return Stop::Fault(sense::DATA_PROTECT, 0x27, 0x00);
+        return Stop::Fault(
+            sense::DATA_PROTECT,
+            sense::WRITE_PROTECTED,
+            sense::UNQUALIFIED,
+        );
     }
     if (sent.len() as u64) < takes {
         return Stop::Refuse(answers::SENT_SHORT);
@@ -95,7 +115,11 @@ pub fn stop_of(
         return Stop::Attend;
     }
     if !served {
-        return Stop::Fault(sense::ILLEGAL_REQUEST, 0x20, 0x00);
+        return Stop::Fault(
+            sense::ILLEGAL_REQUEST,
+            sense::INVALID_OPERATION_CODE,
+            sense::UNQUALIFIED,
+        );
     }
     stop_of_served(o, d, cmd, guarded, sent, received)
 }

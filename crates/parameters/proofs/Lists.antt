@@ -9,7 +9,7 @@ use lib.Dec.{eqb, leb}
 use lib.ListN.{getD}
 use Rattle.words.specs.Words.{be}
 use Rattle.objects.specs.Object.{largestBlock}
-use Rattle.commands.specs.Parameters.{headerLength, wholeLength, listLengthKnown, newLength, headerRight, descriptorRight, listRight}
+use Rattle.commands.specs.Parameters.{headerLength, wholeLength, newLength, headerRight, descriptorRight, listRight}
 
 module _ (n : ℕ) (s : List ℕ) where
   pub header-1 : (getD s 1 0 ≡ 0 → ⊥) → false ≡ headerRight n s

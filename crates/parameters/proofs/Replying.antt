@@ -3,23 +3,19 @@
 use Prim.Native.Nat.{ℕ, _^_, _≤_, _<_, min}
 use native.Mathlib.Omega.{arith}
 use mathlib.Core.Path.{_≡_, refl, ap, _∙_}
-use mathlib.Core.Bool.{Bool, true, false, cond}
-use mathlib.Core.List.{List, [], _∷_}
+use mathlib.Core.Bool.{Bool, true, false}
+use mathlib.Core.List.{List, []}
 use borrow.Author.Tests.{eq-eqb, ne-eqb}
-use lib.Dec.{eqb}
 use lib.ListN.{length, length-take}
 use Rattle.words.specs.Words.{bytes, over, limited}
 use Rattle.sense.specs.Sense.{attentionSense}
 use Rattle.record.specs.declared.drive.Drive.{Drive}
 use Rattle.record.specs.Record.{noAttention}
-use Rattle.codes.specs.declared.operation.Operation.{Operation}
-use Rattle.codes.specs.declared.operation.Operation.the-variants.{RequestSense, ReadBlockLimits, ModeSense, ReadPosition}
-use Rattle.codes.specs.Fields.{allocationOf, dbdOf, formOf}
-use Rattle.commands.specs.Parameters.{headerLength, wholeLength, blockLimits, modeData, shortPosition, longPosition}
+use Rattle.codes.specs.declared.operation.Operation.the-variants.{RequestSense, ReadBlockLimits, ModeSense}
+use Rattle.codes.specs.Fields.{allocationOf, dbdOf}
+use Rattle.commands.specs.Parameters.{blockLimits, modeData}
 use Rattle.commands.specs.declared.deeds.Left.{Left}
-use Rattle.commands.specs.Kinds.{among}
-use Rattle.commands.specs.Act.{Seen, carrying, good, unattended, shortForm, senseAsked, replyOf, act}
-use Rattle.commands.specs.Tests.{replyLength}
+use Rattle.commands.specs.Act.{carrying, good, unattended, senseAsked, replyOf, act}
 use Rattle.commands.specs.Call.{nothing}
 use Rattle.commands.specs.Left.{leftBy, protectedOnly}
 

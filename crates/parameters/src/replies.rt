@@ -6,7 +6,6 @@ ghost use lib.ListN.{length};
 ghost use Rattle.words.specs.Words.{over};
 ghost use Rattle.codes.specs.declared.operation.Operation.the-variants.{RequestSense, ReadBlockLimits, ModeSense};
 ghost use Rattle.commands.specs.Act.{senseAsked, replyOf, act};
-ghost use Rattle.commands.specs.Act.{unattended as Act·unattended};
 ghost use Rattle.commands.specs.Call.{nothing};
 ghost use Rattle.commands.specs.Left.{leftBy, protectedOnly};
 use crate::data::block_limits;

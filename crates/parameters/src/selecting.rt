@@ -37,8 +37,8 @@ pub fn select(d: Drive, cmd: &[u8], sent: &[u8]) -> Left
             false,
             false,
             sense::ILLEGAL_REQUEST,
-            0x26,
-            0x00,
+            sense::INVALID_LIST_FIELD,
+            sense::UNQUALIFIED,
             0,
             0,
         );

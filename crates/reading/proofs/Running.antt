@@ -20,7 +20,7 @@ use Rattle.image.proofs.Objects.{length-objects, end-bytes}
 use Rattle.record.specs.declared.drive.Drive.{Drive}
 use Rattle.reading.specs.declared.runs.Ended.the-variants.{Whole, OddLength, AtFilemark, AtEnd}
 use Rattle.reading.specs.declared.runs.Blocks.{Blocks}
-use Rattle.objects.specs.Transfer.{oddLength, Run, halted, after, runOf}
+use Rattle.objects.specs.Transfer.{oddLength, Run, halted, wholeBefore, runOf}
 use Rattle.reading.specs.Runs.{runWith}
 use Rattle.commands.specs.declared.deeds.Left.{Left}
 use Rattle.commands.specs.Act.{Seen, carrying, good, checked, at, filemarkMet, endMet, oddMet, runTells, readRun}
@@ -40,7 +40,7 @@ reaches b (suc n) [] = record { many = sym (zero-mul b); inside = zero-le; withi
 reaches b (suc n) (filemark ∷ xs) = record { many = sym (zero-mul b); inside = zero-le; within = omega arith }
 reaches b (suc n) (block bs ∷ xs) = by (eqb (length bs) b) refl (reaches b n xs)
   where
-    by : (t : Bool) → eqb (length bs) b ≡ t → Reaches b xs (runOf b n xs) → Reaches b (block bs ∷ xs) (elim t [ true ↦ after bs (runOf b n xs) | false ↦ halted 1 oddLength ])
+    by : (t : Bool) → eqb (length bs) b ≡ t → Reaches b xs (runOf b n xs) → Reaches b (block bs ∷ xs) (elim t [ true ↦ wholeBefore bs (runOf b n xs) | false ↦ halted 1 oddLength ])
     by true q g = record {
       many = length-append bs (runOf b n xs .bytes) ∙ omega (arith, eqb-true (length bs) b q, g .many, suc-mul (runOf b n xs .blocks) b);
       inside = omega (arith, length-append bs (runOf b n xs .bytes), g .inside);

@@ -12,7 +12,7 @@ use Rattle.record.specs.declared.drive.Drive.{Drive}
 use Rattle.record.proofs.drive.Drive as T
 use Rattle.record.proofs.drive.Drive.Laws as T′
 
-pub record Held (d : Drive) : Type 0 where
+pub record Bounded (d : Drive) : Type 0 where
   pub position-fits : d .position < 2 ^ 32
   pub block-fits : d .«block_length» < 2 ^ 32
   pub sense-length : length (d .sense) ≡ senseLength
@@ -21,7 +21,7 @@ length-map : (f : ℕ → ℕ) (xs : List ℕ) → length (map f xs) ≡ length 
 length-map f [] = refl
 length-map f (x ∷ xs) = ap suc (length-map f xs)
 
-pub held : (d : Drive) → Is T.the-row d (LL.vals T.the-type T′.the-laws d) → Held d
+pub held : (d : Drive) → Is T.the-row d (LL.vals T.the-type T′.the-laws d) → Bounded d
 held d is =
     let o = LL.owed T.the-type T′.the-laws d _ is in
     record {

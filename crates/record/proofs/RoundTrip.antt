@@ -14,14 +14,14 @@ use Rattle.words.proofs.Stores.{four-bytes, four-back, spelt4}
 use Rattle.sense.specs.Sense.{senseLength}
 use Rattle.record.specs.declared.drive.Drive.{Drive}
 use Rattle.record.specs.Record.{recordLength, decodeOf, encodeOf}
-use Rattle.record.proofs.Facts.{Held}
+use Rattle.record.proofs.Facts.{Bounded}
 
 -- ---- round trips
 
 word-back : (n : ℕ) → n < 2 ^ 32 → n / 16777216 % 256 * 16777216 + n / 65536 % 256 * 65536 + n / 256 % 256 * 256 + n % 256 ≡ n
 word-back n h = sym (spelt4 (n / 16777216 % 256 ∷ n / 65536 % 256 ∷ n / 256 % 256 ∷ n % 256 ∷ []) 0) ∙ ap (λ (l : List ℕ). be 4 l 0) (sym (four-bytes n)) ∙ be-bytes 4 n h
 
-pub decode-encode : (d : Drive) → Held d → decodeOf (encodeOf d) ≡ d
+pub decode-encode : (d : Drive) → Bounded d → decodeOf (encodeOf d) ≡ d
 unfolding decodeOf encodeOf
 decode-encode d h =
     rw (four-bytes (d .position), four-bytes (d .«block_length»)) (λ i. record {

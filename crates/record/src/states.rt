@@ -71,7 +71,7 @@ pub fn is_well_formed(d: Drive) -> bool
 }
 
 // A fresh drive: nothing loaded, and the attention of power on.
-pub fn fresh() -> Drive
+pub fn fresh_drive() -> Drive
     ensures { λ r. ⌜ r ≡ freshDrive ⌝ }
 {
     let sense = sense::empty();
@@ -103,7 +103,7 @@ pub fn mounted(partitions: u8) -> Drive
 }
 
 // LOAD: the beginning of partition 0.
-pub fn load(d: Drive) -> Drive
+pub fn load_anew(d: Drive) -> Drive
     ensures { λ r. ⌜ r ≡ loadedAnew d ⌝ }
 {
     let mut e = d;

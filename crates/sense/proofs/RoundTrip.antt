@@ -17,7 +17,7 @@ use Rattle.sense.specs.declared.Sense.{Sense}
 use Rattle.sense.specs.Sense.{senseLength, byte2, senseBytes, partsOf}
 
 -- the numbers that a sense's fields can hold
-pub record Held (s : Sense) : Type 0 where
+pub record Spellable (s : Sense) : Type 0 where
   pub key-small : s .key < 16
   pub information-small : s .information < 2 ^ 32
 
@@ -47,7 +47,7 @@ information-back : (s : Sense) → s .information < 2 ^ 32 → be 4 (senseBytes 
 unfolding senseBytes
 information-back s h = rw (four-bytes (s .information)) (spelt4 _ 3 ∙ word-back (s .information) h)
 
-pub parts-made : (s : Sense) → Held s → partsOf (senseBytes s) ≡ s
+pub parts-made : (s : Sense) → Spellable s → partsOf (senseBytes s) ≡ s
 unfolding partsOf senseBytes bytes
 parts-made s h =
     let k : s .key % 16 ≡ s .key = omega (arith, h .key-small) in

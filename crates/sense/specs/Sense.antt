@@ -36,6 +36,62 @@ blankCheck = 0x8
 abbrev pub volumeOverflow : ℕ
 volumeOverflow = 0xD
 
+-- ---- the additional sense codes (ASC) and their qualifiers (ASCQ) that 01 uses
+
+-- ASC 00h, which these qualifiers go with: nothing more, filemark detected, end of partition, beginning of partition, end of data
+abbrev pub noAdditional : ℕ
+noAdditional = 0x00
+
+abbrev pub unqualified : ℕ
+unqualified = 0x00
+
+abbrev pub filemarkDetected : ℕ
+filemarkDetected = 0x01
+
+abbrev pub endOfPartition : ℕ
+endOfPartition = 0x02
+
+abbrev pub beginningOfPartition : ℕ
+beginningOfPartition = 0x04
+
+abbrev pub endOfDataDetected : ℕ
+endOfDataDetected = 0x05
+
+-- those that go unqualified: parameter list length error, invalid operation code, invalid field in the command and in the
+-- parameter list, write protected, medium not present
+abbrev pub listLengthError : ℕ
+listLengthError = 0x1A
+
+abbrev pub invalidOperationCode : ℕ
+invalidOperationCode = 0x20
+
+abbrev pub invalidField : ℕ
+invalidField = 0x24
+
+abbrev pub invalidListField : ℕ
+invalidListField = 0x26
+
+abbrev pub writeProtected : ℕ
+writeProtected = 0x27
+
+abbrev pub mediumNotPresent : ℕ
+mediumNotPresent = 0x3A
+
+-- ---- the bits and the fixed byte
+
+abbrev pub filemarkBit : ℕ
+filemarkBit = 0x80
+
+abbrev pub eomBit : ℕ
+eomBit = 0x40
+
+abbrev pub iliBit : ℕ
+iliBit = 0x20
+
+-- how many bytes follow byte 7
+abbrev pub additionalLength : ℕ
+additionalLength = 0x0A
+
 -- ---- made
 
 -- byte 0 F0h with VALID, else 70h
@@ -44,20 +100,20 @@ byte0 s = cond (s .valid) 0xF0 0x70
 
 -- byte 2: FILEMARK 80h, EOM 40h, ILI 20h, key below
 abbrev pub byte2 : Sense → ℕ
-byte2 s = cond (s .filemark) 0x80 0 + cond (s .eom) 0x40 0 + cond (s .ili) 0x20 0 + s .key % 16
+byte2 s = cond (s .filemark) filemarkBit 0 + cond (s .eom) eomBit 0 + cond (s .ili) iliBit 0 + s .key % 16
 
 -- bytes 3–6 information; 7 0Ah; 12 ASC; 13 ASCQ; other bytes 0
 unfoldable pub senseBytes : Sense → List ℕ
-senseBytes s = (byte0 s ∷ 0 ∷ byte2 s ∷ []) ++ bytes 4 (s .information) ++ (0x0A ∷ []) ++ zeros 4 ++ (s .asc ∷ s .ascq ∷ []) ++ zeros 4
+senseBytes s = (byte0 s ∷ 0 ∷ byte2 s ∷ []) ++ bytes 4 (s .information) ++ (additionalLength ∷ []) ++ zeros 4 ++ (s .asc ∷ s .ascq ∷ []) ++ zeros 4
 
 -- ---- and taken apart
 
 unfoldable pub partsOf : List ℕ → Sense
 partsOf b = record {
   valid = eqb (getD b 0 0 / 0x80) 1;
-  filemark = eqb (getD b 2 0 / 0x80 % 2) 1;
-  eom = eqb (getD b 2 0 / 0x40 % 2) 1;
-  ili = eqb (getD b 2 0 / 0x20 % 2) 1;
+  filemark = eqb (getD b 2 0 / filemarkBit % 2) 1;
+  eom = eqb (getD b 2 0 / eomBit % 2) 1;
+  ili = eqb (getD b 2 0 / iliBit % 2) 1;
   key = getD b 2 0 % 16;
   information = be 4 b 3;
   asc = getD b 12 0;
@@ -89,8 +145,8 @@ plainly key asc ascq = told false false false false key asc ascq (pos 0)
 
 -- "sense empty (70h first, 0Ah in byte 7, else 0)"
 unfoldable pub emptySense : List ℕ
-emptySense = senseBytes (plainly noSense 0x00 0x00)
+emptySense = senseBytes (plainly noSense noAdditional unqualified)
 
 -- "Attention answers 6 with 28/00 or 29/00"
 unfoldable pub attentionSense : ℕ → List ℕ
-attentionSense attention = senseBytes (plainly unitAttention attention 0x00)
+attentionSense attention = senseBytes (plainly unitAttention attention unqualified)

@@ -24,6 +24,41 @@ pub const BLANK_CHECK: u8 = 0x8;
 
 pub const VOLUME_OVERFLOW: u8 = 0xd;
 
+// The additional sense codes and their qualifiers: ASC 00h, and what goes with it.
+pub const NO_ADDITIONAL: u8 = 0x00;
+
+pub const UNQUALIFIED: u8 = 0x00;
+
+pub const FILEMARK_DETECTED: u8 = 0x01;
+
+pub const END_OF_PARTITION: u8 = 0x02;
+
+pub const BEGINNING_OF_PARTITION: u8 = 0x04;
+
+pub const END_OF_DATA_DETECTED: u8 = 0x05;
+
+// Those that go unqualified.
+pub const LIST_LENGTH_ERROR: u8 = 0x1a;
+
+pub const INVALID_OPERATION_CODE: u8 = 0x20;
+
+pub const INVALID_FIELD: u8 = 0x24;
+
+pub const INVALID_LIST_FIELD: u8 = 0x26;
+
+pub const WRITE_PROTECTED: u8 = 0x27;
+
+pub const MEDIUM_NOT_PRESENT: u8 = 0x3a;
+
+// The bits of byte 2, and how many bytes follow byte 7.
+const FILEMARK: u8 = 0x80;
+
+const EOM: u8 = 0x40;
+
+const ILI: u8 = 0x20;
+
+const ADDITIONAL_LENGTH: u8 = 0x0a;
+
 pub struct Sense {
     pub valid: bool,
     pub filemark: bool,
@@ -67,7 +102,7 @@ pub fn bytes_of(s: Sense) -> [u8; SENSE_LENGTH]
         (n >> 16 & 255) as u8,
         (n >> 8 & 255) as u8,
         (n & 255) as u8,
-        0x0a,
+        ADDITIONAL_LENGTH,
         0,
         0,
         0,
@@ -88,9 +123,9 @@ pub fn parts_of(b: &[u8; SENSE_LENGTH]) -> Sense
     let third = b[2];
     Sense {
         valid: b[0] >> 7 == 1,
-        filemark: third & 0x80 != 0,
-        eom: third & 0x40 != 0,
-        ili: third & 0x20 != 0,
+        filemark: third & FILEMARK != 0,
+        eom: third & EOM != 0,
+        ili: third & ILI != 0,
         key: third & 0x0f,
         information: words::be32_at(b, 3),
         asc: b[12],
@@ -154,12 +189,12 @@ pub fn plainly(key: u8, asc: u8, ascq: u8) -> [u8; SENSE_LENGTH]
 pub fn empty() -> [u8; SENSE_LENGTH]
     ensures { λ r. ⌜ r ≡ emptySense ⌝ }
 {
-    plainly(NO_SENSE, 0x00, 0x00)
+    plainly(NO_SENSE, NO_ADDITIONAL, UNQUALIFIED)
 }
 
 // The sense of a waiting attention.
 pub fn of_attention(attention: u8) -> [u8; SENSE_LENGTH]
     ensures { λ r. ⌜ r ≡ attentionSense attention ⌝ }
 {
-    plainly(UNIT_ATTENTION, attention, 0x00)
+    plainly(UNIT_ATTENTION, attention, UNQUALIFIED)
 }

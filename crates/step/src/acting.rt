@@ -42,7 +42,7 @@ fn load_unload(d: Drive, cmd: &[u8]) -> Left
     ensures { λ r. ⌜ r ≡ leftBy (act LoadUnload d (now (cmd .entry)) [] nothing) ⌝ }
 {
     if codes::load(cmd) {
-        return commands::good(record::load(d), 0);
+        return commands::good(record::load_anew(d), 0);
     }
     commands::good(record::unload(d), 0)
 }

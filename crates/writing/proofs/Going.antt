@@ -14,7 +14,7 @@ use Rattle.objects.specs.Room.{trailerLength, entryLength, roomOf, fitsIn}
 use Rattle.image.specs.Image.{mostLength, count, endAt, room, fits, sound}
 use Rattle.changes.specs.Changes.{occur, occurs}
 use Rattle.image.proofs.Facts.{Sound, sound-parts, entries-in}
-use Rattle.changes.proofs.Placed.{Kept}
+use Rattle.changes.proofs.Placed.{Holdable}
 use Rattle.changes.proofs.Obeys.{Admits, obeys, put-next}
 use Rattle.objects.specs.Transfer.{marksOf, fitting, putFrom}
 use Rattle.objects.proofs.Fitting.{fitting-more, fitting-none}
@@ -53,7 +53,7 @@ begin p os s k h = record {
 }
 
 module _ (p : ℕ) (os : List Object) (s : List ℕ) (k : ℕ) (o : Object) (rest : List Object) (t : List ℕ) (g : Going p os s k (o ∷ rest) t) where
-  pub turn : Kept o → fits t (p + k) (length (dataOf o)) ≡ true → Going p os s (k + 1) rest (occur (put (p + k) o) t)
+  pub turn : Holdable o → fits t (p + k) (length (dataOf o)) ≡ true → Going p os s (k + 1) rest (occur (put (p + k) o) t)
   turn q f =
       let a : Admits (put (p + k) o) t = (g .there, q, f) in
       let b = obeys (put (p + k) o) t (g .right) a in

@@ -1,8 +1,7 @@
 -- Blocks of b bytes each, taken one after another from the bytes sent: the law of `Going` in the shape of the loop that puts them.
 -- Assumes nothing.
 use Prim.Native.Nat.{ℕ, suc, _+_, _-_, _*_, _<_, _≤_}
-use native.Mathlib.Nat.{zero-mul, suc-mul, mul-le-mul-right}
-use native.Mathlib.Numerals.{add-one}
+use native.Mathlib.Nat.{zero-mul}
 use native.Mathlib.Omega.{arith}
 use mathlib.Core.Bool.{true, false}
 use mathlib.Core.Path.{_≡_, refl, ap, _∙_}
@@ -20,18 +19,18 @@ use Rattle.writing.proofs.Going.{Going, Gone, begin, turn, stops, ends}
 -- ---- where block k of n lies
 
 -- block k, as the code takes it
-abbrev pub part : ℕ → ℕ → List ℕ → List ℕ
-part k b x = take (k * b + b - k * b) (drop (k * b) x)
+abbrev pub sentPart : ℕ → ℕ → List ℕ → List ℕ
+sentPart k b x = take (k * b + b - k * b) (drop (k * b) x)
 
-part-is : (k b : ℕ) (x : List ℕ) → part k b x ≡ take b (drop (k * b) x)
+part-is : (k b : ℕ) (x : List ℕ) → sentPart k b x ≡ take b (drop (k * b) x)
 part-is k b x = let z : k * b + b - k * b ≡ b = omega arith in ap (λ (m : ℕ). take m (drop (k * b) x)) z
 
-pub part-length : (n k b : ℕ) (x : List ℕ) → k < n → n * b ≤ length x → length (part k b x) ≡ b
+pub part-length : (n k b : ℕ) (x : List ℕ) → k < n → n * b ≤ length x → length (sentPart k b x) ≡ b
 part-length n k b x h m =
     let i = place-in n k b (length x) h m in
     ap length (part-is k b x) ∙ length-take-le b (drop (k * b) x) (omega (arith, length-drop (k * b) x))
 
-blocks-next : (b n : ℕ) (x : List ℕ) (k : ℕ) → k < n → blocksOf b (n - k) (drop (k * b) x) ≡ block (part k b x) ∷ blocksOf b (n - (k + 1)) (drop ((k + 1) * b) x)
+blocks-next : (b n : ℕ) (x : List ℕ) (k : ℕ) → k < n → blocksOf b (n - k) (drop (k * b) x) ≡ block (sentPart k b x) ∷ blocksOf b (n - (k + 1)) (drop ((k + 1) * b) x)
 unfolding blocksOf
 blocks-next b n x k h =
     let z : n - k ≡ suc (n - (k + 1)) = omega arith in
@@ -54,16 +53,16 @@ module _ (p n b : ℕ) (x s : List ℕ) (k : ℕ) (t : List ℕ) (g : Sending p 
   blocks-end h = ends p (blocksOf b n x) s k t (rw (blocks-none b n x k h) at g)
 
   module _ (h : k < n) (m : n * b ≤ length x) where
-    pub part-fits : fits t (p + k) b ≡ true → fits t (p + k) (length (part k b x)) ≡ true
+    pub part-fits : fits t (p + k) b ≡ true → fits t (p + k) (length (sentPart k b x)) ≡ true
     part-fits f = ap (fits t (p + k)) (part-length n k b x h m) ∙ f
 
     pub blocks-stop : fits t (p + k) b ≡ false → Gone p (blocksOf b n x) s k t
     blocks-stop f =
-        stops p (blocksOf b n x) s k (block (part k b x)) (blocksOf b (n - (k + 1)) (drop ((k + 1) * b) x)) t (rw (blocks-next b n x k h) at g)
+        stops p (blocksOf b n x) s k (block (sentPart k b x)) (blocksOf b (n - (k + 1)) (drop ((k + 1) * b) x)) t (rw (blocks-next b n x k h) at g)
         (ap (fits t (p + k)) (part-length n k b x h m) ∙ f)
 
-    pub blocks-turn : 1 ≤ b → b ≤ largestBlock → fits t (p + k) b ≡ true → Sending p n b x s (k + 1) (occur (put (p + k) (block (part k b x))) t)
+    pub blocks-turn : 1 ≤ b → b ≤ largestBlock → fits t (p + k) b ≡ true → Sending p n b x s (k + 1) (occur (put (p + k) (block (sentPart k b x))) t)
     blocks-turn u v f =
         let l = part-length n k b x h m in
-        turn p (blocksOf b n x) s k (block (part k b x)) (blocksOf b (n - (k + 1)) (drop ((k + 1) * b) x)) t (rw (blocks-next b n x k h) at g)
+        turn p (blocksOf b n x) s k (block (sentPart k b x)) (blocksOf b (n - (k + 1)) (drop ((k + 1) * b) x)) t (rw (blocks-next b n x k h) at g)
         (omega arith, omega arith) (part-fits f)

@@ -23,7 +23,7 @@ use Rattle.codes.specs.declared.operation.Operation.the-variants.{Write, WriteF
 use Rattle.codes.specs.Fields.{fixedOf, transferOf, longOf}
 use Rattle.sense.specs.declared.Sense.{Sense}
 use Rattle.objects.specs.Transfer.{blocksOf, marksOf, fitting, putFrom}
-use Rattle.changes.proofs.Down.{Down, AllKept, down, down-inside, marks-kept}
+use Rattle.changes.proofs.Down.{Down, AllHoldable, down, down-inside, marks-kept}
 use Rattle.commands.specs.declared.deeds.Left.{Left}
 use Rattle.commands.specs.Act.{Deed, carrying, checked, good, at, warned, overflowed, offered, goesDown, wrote, writing, marking, eventsOf}
 use Rattle.commands.specs.Step.{acted}
@@ -80,7 +80,7 @@ module _ (d : Drive) (s : List ℕ) (k : sound s ≡ true) (h : d .position ≤ 
   unfolding wrote seenOf
   ended-is os w t et n m em z = rw (em, et, zone-after os w) refl
 
-  module _ (os : List Object) (a : AllKept os) (t : List ℕ) (et : t ≡ occurs (putFrom (d .position) (gone os)) s) (m : ℕ) (em : m ≡ length (gone os)) where
+  module _ (os : List Object) (a : AllHoldable os) (t : List ℕ) (et : t ≡ occurs (putFrom (d .position) (gone os)) s) (m : ℕ) (em : m ≡ length (gone os)) where
     went : Down (d .position) (gone os) s
     went = down os (d .position) s (sound-parts s k) h a
 
@@ -112,7 +112,7 @@ module _ (d : Drive) (s : List ℕ) (k : sound s ≡ true) (h : d .position ≤ 
     no-events z = sym (ap (λ (os : List Object). occurs (putFrom (d .position) os) s) (goes-down Write cmd sent ∙ ap gone (none-offered z)))
 
     -- the objects os were offered, and m of them went down, to leave t
-    module _ (z : n ≡ 0 → ⊥) (os : List Object) (eo : offered Write d cmd sent ≡ os) (a : AllKept os) (b : ℕ) (eb : bytesIn (gone os) ≡ length (gone os) * b)
+    module _ (z : n ≡ 0 → ⊥) (os : List Object) (eo : offered Write d cmd sent ≡ os) (a : AllHoldable os) (b : ℕ) (eb : bytesIn (gone os) ≡ length (gone os) * b)
         (t : List ℕ) (et : t ≡ occurs (putFrom (d .position) (gone os)) s) (m : ℕ) (em : m ≡ length (gone os)) where
       pub events-written : t ≡ occurs (eventsOf Write d cmd sent (seenOf s)) s
       unfolding eventsOf

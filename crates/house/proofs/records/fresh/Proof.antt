@@ -11,8 +11,8 @@ refused-requires c κs = search needs
 returns : tie.Need-returns
 returns c = fresh-refused _ _ (c .before .if1 .taken) (c .refused .ensures)
 
-fresh-requires : tie.Need-fresh-requires
-fresh-requires c κs = search needs
+fresh-drive-requires : tie.Need-fresh-drive-requires
+fresh-drive-requires c κs = search needs
 
 encode-requires : tie.Need-encode-requires
 encode-requires c κs = search needs
@@ -24,7 +24,7 @@ same-length : tie.Need-same-length
 same-length c = search needs
 
 returns-2 : tie.Need-returns-2
-returns-2 c = fresh-done _ _ (c .before .before .before .before .before .before .if1 .left) _ _ (c .before .before .before .before .before .fresh .ensures) (c .before .before .before .encode .ensures) (c .done .ensures)
+returns-2 c = fresh-done _ _ (c .before .before .before .before .before .before .if1 .left) _ _ (c .before .before .before .before .before .fresh-drive .ensures) (c .before .before .before .encode .ensures) (c .done .ensures)
 
 pub fresh-spec : {M : Type 1} → statement M
 fresh-spec =
@@ -32,7 +32,7 @@ fresh-spec =
     (tie.spec
     refused-requires
     returns
-    fresh-requires
+    fresh-drive-requires
     encode-requires
     done-requires
     same-length

@@ -2,7 +2,7 @@
 -- Assumes nothing.
 use mathlib.Core.Path.{ap}
 use borrow.Author.Needs.{needs}
-use Rattle.image.proofs.Judged.{taken}
+use Rattle.image.proofs.Judged.{part-taken}
 use Rattle.image.specs.Parts.{placeOf}
 use Rattle.image.proofs.part.block_at.Statement.{statement}
 use Rattle.image.proofs.part.block_at.Tie as tie
@@ -31,7 +31,7 @@ part-result-end c = search needs
 returns : tie.Need-returns
 returns c =
     let e = c .before .before .before .block-part .ensures .0 in
-    (taken _ _ _ e, ap (placeOf (c .before .before .before .before .before .args .s .ptr)) e)
+    (part-taken _ _ _ e, ap (placeOf (c .before .before .before .before .before .args .s .ptr)) e)
 
 pub block-at-spec : {M : Type 1} → statement M
 block-at-spec =

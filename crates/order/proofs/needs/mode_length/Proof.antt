@@ -2,7 +2,7 @@
 -- Assumes nothing.
 use mathlib.Core.Path.{refl}
 use borrow.Author.Needs.{needs}
-use Rattle.order.proofs.Counts.{chosen, other}
+use Rattle.order.proofs.Counts.{picked, other}
 use Rattle.order.proofs.needs.mode_length.Statement.{statement}
 use Rattle.order.proofs.needs.mode_length.Tie as tie
 
@@ -10,7 +10,7 @@ dbd-requires : tie.Need-dbd-requires
 dbd-requires c κs = search needs
 
 returns : tie.Need-returns
-returns c = chosen _ _ _ _ _ (c .before .dbd .ensures) (c .if1 .taken) refl
+returns c = picked _ _ _ _ _ (c .before .dbd .ensures) (c .if1 .taken) refl
 
 returns-2 : tie.Need-returns-2
 returns-2 c = other _ _ _ _ _ (c .before .dbd .ensures) (c .if1 .left) refl

@@ -3,7 +3,7 @@
 use borrow.Author.Needs.{needs}
 use Rattle.record.proofs.Facts.{held}
 use Rattle.commands.specs.Tests.{needed}
-use Rattle.order.proofs.Counts.{chosen, other}
+use Rattle.order.proofs.Counts.{picked, other}
 use Rattle.order.proofs.needs.needed.Statement.{statement}
 use Rattle.order.proofs.needs.needed.Tie as tie
 
@@ -15,7 +15,7 @@ bytes-asked-requires c κs = search needs
 
 returns : tie.Need-returns
 unfolding needed
-returns c = chosen _ _ _ _ _ (c .before .before .is-same .ensures) (c .before .if1 .taken) (c .bytes-asked .ensures)
+returns c = picked _ _ _ _ _ (c .before .before .is-same .ensures) (c .before .if1 .taken) (c .bytes-asked .ensures)
 
 reply-length-requires : tie.Need-reply-length-requires
 reply-length-requires c κs = search needs

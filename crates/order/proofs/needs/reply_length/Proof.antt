@@ -3,7 +3,7 @@
 use mathlib.Core.Path.{refl}
 use borrow.Author.Needs.{needs}
 use Rattle.commands.specs.Tests.{replyLength}
-use Rattle.order.proofs.Counts.{chosen, other, limited-sense}
+use Rattle.order.proofs.Counts.{picked, other, limited-sense}
 use Rattle.order.proofs.needs.reply_length.Statement.{statement}
 use Rattle.order.proofs.needs.reply_length.Tie as tie
 
@@ -15,14 +15,14 @@ limited-requires c κs = search needs
 
 returns : tie.Need-returns
 unfolding replyLength
-returns c = λ d h. chosen _ _ _ _ _ (c .before .before .is-same .ensures) (c .before .if1 .taken) (limited-sense d _ _ h (c .limited .ensures))
+returns c = λ d h. picked _ _ _ _ _ (c .before .before .is-same .ensures) (c .before .if1 .taken) (limited-sense d _ _ h (c .limited .ensures))
 
 is-same-requires-2 : tie.Need-is-same-requires-2
 is-same-requires-2 c κs = search needs
 
 returns-2 : tie.Need-returns-2
 unfolding replyLength
-returns-2 c = λ d h. other _ _ _ _ _ (c .before .before .before .is-same .ensures) (c .before .before .if1 .left) (chosen _ _ _ _ _ (c .before .is-same2 .ensures) (c .if2 .taken) (refl))
+returns-2 c = λ d h. other _ _ _ _ _ (c .before .before .before .is-same .ensures) (c .before .before .if1 .left) (picked _ _ _ _ _ (c .before .is-same2 .ensures) (c .if2 .taken) (refl))
 
 is-same-requires-3 : tie.Need-is-same-requires-3
 is-same-requires-3 c κs = search needs
@@ -35,7 +35,7 @@ limited-requires-2 c κs = search needs
 
 returns-3 : tie.Need-returns-3
 unfolding replyLength
-returns-3 c = λ d h. other _ _ _ _ _ (c .before .before .before .before .before .before .before .is-same .ensures) (c .before .before .before .before .before .before .if1 .left) (other _ _ _ _ _ (c .before .before .before .before .before .is-same2 .ensures) (c .before .before .before .before .if2 .left) (chosen _ _ _ _ _ (c .before .before .before .is-same3 .ensures) (c .before .before .if3 .taken) (rw (← c .before .mode-length .ensures) (c .limited2 .ensures))))
+returns-3 c = λ d h. other _ _ _ _ _ (c .before .before .before .before .before .before .before .is-same .ensures) (c .before .before .before .before .before .before .if1 .left) (other _ _ _ _ _ (c .before .before .before .before .before .is-same2 .ensures) (c .before .before .before .before .if2 .left) (picked _ _ _ _ _ (c .before .before .before .is-same3 .ensures) (c .before .before .if3 .taken) (rw (← c .before .mode-length .ensures) (c .limited2 .ensures))))
 
 is-same-requires-4 : tie.Need-is-same-requires-4
 is-same-requires-4 c κs = search needs
@@ -45,7 +45,7 @@ position-length-requires c κs = search needs
 
 returns-4 : tie.Need-returns-4
 unfolding replyLength
-returns-4 c = λ d h. other _ _ _ _ _ (c .before .before .before .before .before .before .before .before .is-same .ensures) (c .before .before .before .before .before .before .before .if1 .left) (other _ _ _ _ _ (c .before .before .before .before .before .before .is-same2 .ensures) (c .before .before .before .before .before .if2 .left) (other _ _ _ _ _ (c .before .before .before .before .is-same3 .ensures) (c .before .before .before .if3 .left) (chosen _ _ _ _ _ (c .before .before .is-same4 .ensures) (c .before .if4 .taken) (c .position-length .ensures))))
+returns-4 c = λ d h. other _ _ _ _ _ (c .before .before .before .before .before .before .before .before .is-same .ensures) (c .before .before .before .before .before .before .before .if1 .left) (other _ _ _ _ _ (c .before .before .before .before .before .before .is-same2 .ensures) (c .before .before .before .before .before .if2 .left) (other _ _ _ _ _ (c .before .before .before .before .is-same3 .ensures) (c .before .before .before .if3 .left) (picked _ _ _ _ _ (c .before .before .is-same4 .ensures) (c .before .if4 .taken) (c .position-length .ensures))))
 
 returns-5 : tie.Need-returns-5
 unfolding replyLength

@@ -1,4 +1,4 @@
--- The loop has read `done` blocks into the start of `received`, and the run is they and the run from there on (`Reading`).
+-- The loop has read `done` blocks into the start of `received`, and the run is they and the run from there on (`ReadOn`).
 -- Assumes nothing.
 use Prim.Native.Nat.{_+_, _-_, _≤_}
 use mathlib.Core.Path.{sym, _∙_}
@@ -6,12 +6,12 @@ use native.Mathlib.Omega.{arith}
 use lib.ListN.{length}
 use Rattle.objects.proofs.Fitting.{place-in}
 use Rattle.image.proofs.Lies.{few, lies}
-use Rattle.reading.proofs.Whole.{Reading, reads-begin, reads-whole, reads-end, reads-filemark, reads-odd, reads-room, reads-turn}
+use Rattle.reading.proofs.Whole.{ReadOn, reads-begin, reads-whole, reads-end, reads-filemark, reads-odd, reads-room, reads-turn}
 use Rattle.reading.proofs.runs.read_blocks.Statement.{statement}
 use Rattle.reading.proofs.runs.read_blocks.Tie as tie
 
 abbrev Inv-loop : tie.InvT-loop
-Inv-loop s p n b received₀ count done₀ received done = (done ≤ n) × Reading s p n b received₀ done received
+Inv-loop s p n b received₀ count done₀ received done = (done ≤ n) × ReadOn s p n b received₀ done received
 
 abbrev μ-loop : tie.MeasureT-loop
 μ-loop s p n b received₀ count done₀ received done = n - done

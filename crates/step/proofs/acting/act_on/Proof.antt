@@ -1,14 +1,12 @@
 -- The command by its arm; what its code asks for, from the tests passed; and what it leaves.
 -- Assumes nothing.
-use mathlib.Core.Path.{refl, ap, _∙_}
+use mathlib.Core.Path.{refl}
 use borrow.Author.Needs.{needs}
 use denote.Ref.{now}
-use Rattle.record.specs.declared.drive.Drive.{Drive}
 use Rattle.codes.specs.declared.operation.Operation.the-variants.{TestUnitReady, Rewind, Read, Write, WriteFilemarks, Space, Erase, LoadUnload, Locate, ReadPosition, NotServed}
-use Rattle.commands.specs.Act.{act, good, eventsOf, marking, goesDown, offered}
+use Rattle.commands.specs.Act.{act, eventsOf, marking, goesDown, offered}
 use Rattle.commands.specs.Step.{acted}
 use Rattle.commands.specs.Call.{laidOut}
-use Rattle.commands.specs.Left.{leftBy}
 use Rattle.step.proofs.Acts.{acts-written, acts-laid, acts-quiet, acts-apart, writing-none, marking-none, spacing-none, locating-none}
 use Rattle.step.proofs.Asked.{five, asks-read, asks-write, asks-place, asks-locate, asks-position, asks-protection, asks-apart}
 use Rattle.step.proofs.Told.{told-apart}

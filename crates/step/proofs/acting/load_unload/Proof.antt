@@ -8,14 +8,14 @@ use Rattle.step.proofs.acting.load_unload.Tie as tie
 load-requires : tie.Need-load-requires
 load-requires c κs = search needs
 
-load-requires-2 : tie.Need-load-requires-2
-load-requires-2 c κs = search needs
+load-anew-requires : tie.Need-load-anew-requires
+load-anew-requires c κs = search needs
 
 good-requires : tie.Need-good-requires
 good-requires c κs = search needs
 
 returns : tie.Need-returns
-returns c = loads _ _ _ (c .before .before .before .load .ensures) _ _ (c .good2 .ensures) (c .before .before .if1 .taken) (c .before .load2 .ensures)
+returns c = loads _ _ _ (c .before .before .before .load .ensures) _ _ (c .good2 .ensures) (c .before .before .if1 .taken) (c .before .load-anew .ensures)
 
 unload-requires : tie.Need-unload-requires
 unload-requires c κs = search needs
@@ -31,7 +31,7 @@ load-unload-spec =
     tie.close
     (tie.spec
     load-requires
-    load-requires-2
+    load-anew-requires
     good-requires
     returns
     unload-requires
