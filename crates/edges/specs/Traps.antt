@@ -8,7 +8,7 @@ use lib.ListN.{replicate}
 use Rattle.words.specs.Words.{bytes, zeros}
 use Rattle.answers.specs.declared.Answer.{Answer}
 use Rattle.answers.specs.Answers.{refused, answered}
-use Rattle.objects.specs.Object.{block}
+use Rattle.objects.specs.Object.{filemark, block}
 use Rattle.objects.specs.Events.{put}
 use Rattle.changes.specs.Changes.{occurs, protect}
 use Rattle.image.specs.Example.{E}
@@ -76,6 +76,7 @@ traps =
     alone (loaded 0 0 0 nothingKept) (six 0x0A 0 45) ten (replicate 45 7) [] (check 0) (loaded 0 0 0 (sense18 0xF0 0x4D 45 0x00 0x02)) ten [] ∷
     -- on a full tape the room at 0 counts
     alone (loaded 0 0 0 nothingKept) (six 0x0A 0 1) full (5 ∷ []) [] (goodAnswer 1) (loaded 0 1 0 nothingKept) (occurs (put 0 (block (5 ∷ [])) ∷ []) full) [] ∷
+    alone (loaded 0 0 0 nothingKept) (six 0x10 0 1) full [] [] (goodAnswer 0) (loaded 0 1 0 nothingKept) (occurs (put 0 filemark ∷ []) full) [] ∷
     -- REQUEST SENSE answers the waiting attention and not the old sense, and clears both
     alone (loaded 0x28 0 0 (plain 5 0x24 0)) (six 0x03 0 0x12) E [] (zeros 18) (goodAnswer 18) (loaded 0 0 0 nothingKept) E (plain 6 0x28 0) ∷
     -- an attention comes before a code that is not served, and a short command before both

@@ -188,9 +188,6 @@ module _ (b : Bool) (rec p0 p1 sent received : List ℕ) (m : Mounted rec (cartr
       g : suc (d .position) ≤ count p
       g = omega (arith, get-lt (objects p) (d .position) (block bs) e, length-objects p)
 
-      odd : Sense
-      odd = oddMet (subℕ (transferOf (readLargest b)) (length bs))
-
       go : (t : Bool) → Step rec (cartridge p0 p1) (leaves (giving bs (cond t (good (at d (suc (d .position)))) (checked (at d (suc (d .position))) (oddMet (subℕ (transferOf (readLargest b)) (length bs)))))) (lent (readLargest b) p0 p1 sent received))
       go true = stepped (giving bs (good (at d (suc (d .position))))) (suc (d .position)) refl g (λ k. rw (drop-some (objects p) (d .position) (block bs) e)
           (ap (λ (y : Met). y ∷ meetings k (drop (suc (d .position)) (objects p))) (met-good _ bs (readLargest b) p0 p1 sent received)))

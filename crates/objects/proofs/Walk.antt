@@ -1,13 +1,13 @@
 -- How far a movement goes and what it counts: by induction on what lies ahead, so that both directions share one proof.
 -- Assumes nothing.
-use Prim.Native.Nat.{ℕ, zero, suc, _-_, _≤_, _<_, zero-le, suc-le-suc, max, min}
-use native.Mathlib.Nat.{not-suc-le-zero, le-of-suc-le-suc, add-zero}
+use Prim.Native.Nat.{ℕ, zero, suc, _-_, _≤_, zero-le, suc-le-suc, max, min}
+use native.Mathlib.Nat.{add-zero}
 use native.Mathlib.Omega.{arith}
 use mathlib.Core.Path.{_≡_, refl, sym, ap, _∙_, subst}
 use mathlib.Core.Bool.{Bool, true, false, cond}
 use mathlib.Core.List.{List, [], _∷_}
 use lib.Dec.{T, leb, leb→le}
-use lib.ListN.{length, drop, getD, length-drop}
+use lib.ListN.{length, drop, length-drop}
 use lib.IntN.{ℤ, pos, negsuc}
 use Rattle.objects.specs.Object.{Object, filemark, block}
 use Rattle.objects.specs.Movement.{Code, blocks, filemarks, done, edge, walk, before, ahead, astern, space, straight, toEndOfData, toObject}
@@ -57,13 +57,6 @@ pub length-before : (p : ℕ) (xs : List Object) → length (before p xs) ≡ p
 unfolding before
 length-before zero xs = refl
 length-before (suc p) xs = ap suc (length-before p xs)
-
-pub getD-before : (p : ℕ) (xs : List Object) (i : ℕ) → i < p → getD (before p xs) i filemark ≡ getD xs (p - suc i) filemark
-unfolding before
-getD-before zero xs i h = absurd (not-suc-le-zero h)
-getD-before (suc p) xs zero h = ap (λ (k : ℕ). getD xs k filemark) (let e : p ≡ suc p - 1 = omega arith in e)
-getD-before (suc p) xs (suc i) h =
-    getD-before p xs i (le-of-suc-le-suc h) ∙ ap (λ (k : ℕ). getD xs k filemark) (let e : p - suc i ≡ suc p - suc (suc i) = omega arith in e)
 
 -- going back c objects from p leaves before it what lies before p - c
 pub drop-before : (c p : ℕ) (xs : List Object) → drop c (before p xs) ≡ before (p - c) xs

@@ -23,6 +23,15 @@ use conditions::is_write_stopped;
 use needs::needed;
 use needs::taken;
 use record::Drive;
+use sense::DATA_PROTECT;
+use sense::ILLEGAL_REQUEST;
+use sense::INVALID_FIELD;
+use sense::INVALID_OPERATION_CODE;
+use sense::LIST_LENGTH_ERROR;
+use sense::MEDIUM_NOT_PRESENT;
+use sense::NOT_READY;
+use sense::UNQUALIFIED;
+use sense::WRITE_PROTECTED;
 
 // A refusal by number; the waiting attention; CHECK CONDITION with key, ASC and ASCQ; or nothing, and the command acts.
 pub enum Stop {
@@ -54,39 +63,19 @@ fn stop_of_served(
     let takes = taken(o, d, cmd);
     let needs = needed(o, d, cmd);
     if field {
-        return Stop::Fault(
-            sense::ILLEGAL_REQUEST,
-            sense::INVALID_FIELD,
-            sense::UNQUALIFIED,
-        );
+        return Stop::Fault(ILLEGAL_REQUEST, INVALID_FIELD, UNQUALIFIED);
     }
     if list {
-        return Stop::Fault(
-            sense::ILLEGAL_REQUEST,
-            sense::LIST_LENGTH_ERROR,
-            sense::UNQUALIFIED,
-        );
+        return Stop::Fault(ILLEGAL_REQUEST, LIST_LENGTH_ERROR, UNQUALIFIED);
     }
     if empty {
-        return Stop::Fault(
-            sense::NOT_READY,
-            sense::MEDIUM_NOT_PRESENT,
-            sense::UNQUALIFIED,
-        );
+        return Stop::Fault(NOT_READY, MEDIUM_NOT_PRESENT, UNQUALIFIED);
     }
     if target {
-        return Stop::Fault(
-            sense::ILLEGAL_REQUEST,
-            sense::INVALID_FIELD,
-            sense::UNQUALIFIED,
-        );
+        return Stop::Fault(ILLEGAL_REQUEST, INVALID_FIELD, UNQUALIFIED);
     }
     if protected {
-        return Stop::Fault(
-            sense::DATA_PROTECT,
-            sense::WRITE_PROTECTED,
-            sense::UNQUALIFIED,
-        );
+        return Stop::Fault(DATA_PROTECT, WRITE_PROTECTED, UNQUALIFIED);
     }
     if (sent.len() as u64) < takes {
         return Stop::Refuse(answers::SENT_SHORT);
@@ -115,11 +104,7 @@ pub fn stop_of(
         return Stop::Attend;
     }
     if !served {
-        return Stop::Fault(
-            sense::ILLEGAL_REQUEST,
-            sense::INVALID_OPERATION_CODE,
-            sense::UNQUALIFIED,
-        );
+        return Stop::Fault(ILLEGAL_REQUEST, INVALID_OPERATION_CODE, UNQUALIFIED);
     }
     stop_of_served(o, d, cmd, guarded, sent, received)
 }

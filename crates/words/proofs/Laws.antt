@@ -10,7 +10,7 @@ use native.Mathlib.Omega.{arith}
 use native.Mathlib.Decide.{decLe}
 use lib.Dec.{lit<}
 use lib.ListN.{length, getD, take, drop, length-append, length-take, length-drop, List·getD-append, take-append-drop, drop-of-length-le}
-use lib.Seq.{slice, take-all, slice-empty, drop-cons, length-slice, take-suc, drop-append-le, take-nil, getD-take, getD-drop, getD-append-add, getD-at, length-take-le, take-append-le, take-take, take-at, drop-at, drop-drop}
+use lib.Seq.{slice, take-all, slice-empty, drop-cons, length-slice, take-suc, drop-append-le, take-nil, getD-take, getD-drop, getD-append-add, getD-at, length-take-le, take-take, take-at, drop-at, drop-drop}
 use Rattle.words.specs.Words.{be, bytes, over}
 
 -- ---- lengths
@@ -150,12 +150,6 @@ module _ (n : ℕ) (s : List ℕ) (at v : ℕ) (fit : at + n ≤ length s) where
   be-put-ge m q h = be-over-ge m s at (bytes n v) q (rw (length-bytes n v) h) put-fits
 
 -- ---- parts
-
-pub take-over : (s : List ℕ) (at : ℕ) (b : List ℕ) (n : ℕ) → n ≤ at → at + length b ≤ length s → take n (over s at b) ≡ take n s
-unfolding over
-take-over s at b n h k =
-    let l : length (take at s) ≡ at = length-take-le at s (omega arith) in
-    take-append-le n (take at s ++ b) _ (simp length-append (omega arith)) ∙ take-append-le n (take at s) b (omega arith) ∙ take-take n at s h
 
 pub drop-over : (s : List ℕ) (at : ℕ) (b : List ℕ) (n : ℕ) → at + length b ≤ n → at + length b ≤ length s → drop n (over s at b) ≡ drop n s
 unfolding over

@@ -1,7 +1,7 @@
 -- How the code's shifts, masks and stores make the numbers of the definitions.
 -- Assumes nothing.
 use mathlib.Core.Path.{_≡_, refl, sym, ap, ap₂, _∙_}
-use mathlib.Core.List.{List, [], _∷_, _++_}
+use mathlib.Core.List.{List, [], _∷_}
 use Prim.Native.Nat.{ℕ, suc, _+_, _*_, _/_, _%_, _^_, _<_, _≤_}
 use native.Mathlib.Nat.{div-div-eq-div-mul, add-zero}
 use native.Mathlib.Omega.{arith}
@@ -10,17 +10,13 @@ use lib.Seq.{sets-eq}
 use lib.Bits.{bitAnd, bitOr, and-mask, or-shifted}
 use Rattle.words.specs.Words.{be, bytes, over}
 use Rattle.words.specs.Order.{le32, swapped}
-use Rattle.words.proofs.Laws.{be-split, bytes-split, bytes-low, length-bytes, over-over}
+use Rattle.words.proofs.Laws.{be-split}
 
 -- a mask of eight ones is a remainder
 pub low8 : (n : ℕ) → bitAnd n 255 ≡ n % 256
 low8 n = and-mask n 8
 
 -- ---- the numbers written out
-
-pub spelt2 : (s : List ℕ) (at : ℕ) → be 2 s at ≡ getD s at 0 * 256 + getD s (at + 1) 0
-unfolding be
-spelt2 s at = rw (add-zero at) (omega arith)
 
 pub spelt3 : (s : List ℕ) (at : ℕ) → be 3 s at ≡ getD s at 0 * 65536 + getD s (at + 1) 0 * 256 + getD s (at + 2) 0
 unfolding be
@@ -31,11 +27,6 @@ unfolding be
 spelt4 s at = rw (add-zero at) (omega arith)
 
 -- ---- bytes joined by shifts
-
-pub joined2 : (a b : ℕ) → a < 256 → b < 256 → bitOr (a * 2 ^ 8 % 2 ^ 32) b ≡ a * 256 + b
-joined2 a b ha hb =
-    let e : a * 2 ^ 8 % 2 ^ 32 ≡ a * 2 ^ 8 = omega arith in
-    rw e (or-shifted a 8 b hb)
 
 pub joined3 : (a b c : ℕ) → a < 256 → b < 256 → c < 256 → bitOr (bitOr (a * 2 ^ 16 % 2 ^ 32) (b * 2 ^ 8 % 2 ^ 32)) c ≡ a * 65536 + b * 256 + c
 joined3 a b c ha hb hc =
@@ -103,19 +94,6 @@ four-back s at ha hb hc hd =
     let d : n % 256 ≡ getD s (at + 3) 0 = omega arith in
     four-bytes (be 4 s at) ∙ rw (spelt4 s at) (λ i. a i ∷ b i ∷ c i ∷ d i ∷ [])
 
-pub stored2 : (s : List ℕ) (at v : ℕ) → at + 2 ≤ length s → set (set s at (v / 256 % 256)) (at + 1) (v % 256) ≡ over s at (bytes 2 v)
-unfolding over bytes
-stored2 s at v h =
-    let e1 : at + 1 ≡ suc at = omega arith in
-    rw e1 (sets-eq (v / 256 % 256 ∷ v % 256 ∷ []) s at h)
-
-pub stored3 : (s : List ℕ) (at v : ℕ) → at + 3 ≤ length s → set (set (set s at (v / 65536 % 256)) (at + 1) (v / 256 % 256)) (at + 2) (v % 256) ≡ over s at (bytes 3 v)
-unfolding over bytes
-stored3 s at v h =
-    let e1 : at + 1 ≡ suc at = omega arith in
-    let e2 : at + 2 ≡ suc (suc at) = omega arith in
-    rw (e1, e2, quotient2 v) (sets-eq (v / 256 / 256 % 256 ∷ v / 256 % 256 ∷ v % 256 ∷ []) s at h)
-
 pub stored4 : (s : List ℕ) (at v : ℕ) → at + 4 ≤ length s
     → set (set (set (set s at (v / 16777216 % 256)) (at + 1) (v / 65536 % 256)) (at + 2) (v / 256 % 256)) (at + 3) (v % 256) ≡ over s at (bytes 4 v)
 unfolding over bytes
@@ -129,15 +107,3 @@ stored4 s at v h =
 
 pub read8 : (s : List ℕ) (at h l : ℕ) → h ≡ be 4 s at → l ≡ be 4 s (at + 4) → h < 2 ^ 32 → l < 2 ^ 32 → bitOr (h * 2 ^ 32 % 2 ^ 64) l ≡ be 8 s at
 read8 s at h l eh el bh bl = joined-words h l bh bl ∙ ap₂ (λ (a b : ℕ). a * 2 ^ 32 + b) eh el ∙ sym (be-split 4 4 s at)
-
-pub low32 : (v : ℕ) → bitAnd v 4294967295 ≡ v % 2 ^ 32
-low32 v = and-mask v 32
-
-pub stored8 : (s : List ℕ) (at v : ℕ) → at + 8 ≤ length s → over (over s at (bytes 4 (v / 2 ^ 32))) (at + 4) (bytes 4 (v % 2 ^ 32)) ≡ over s at (bytes 8 v)
-stored8 s at v h =
-    let l : length (bytes 4 (v / 2 ^ 32)) ≡ 4 = length-bytes 4 (v / 2 ^ 32) in
-    let m : length (bytes 4 (v % 2 ^ 32)) ≡ 4 = length-bytes 4 (v % 2 ^ 32) in
-    ap (λ (k : ℕ). over (over s at (bytes 4 (v / 2 ^ 32))) (at + k) (bytes 4 (v % 2 ^ 32))) (sym l)
-    ∙ over-over s at (bytes 4 (v / 2 ^ 32)) (bytes 4 (v % 2 ^ 32)) (omega arith)
-    ∙ ap (λ (b : List ℕ). over s at (bytes 4 (v / 2 ^ 32) ++ b)) (bytes-low 4 v)
-    ∙ ap (over s at) (sym (bytes-split 4 4 v))

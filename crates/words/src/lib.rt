@@ -4,7 +4,6 @@ mod run;
 mod signed;
 mod write;
 
-pub use read::be16_at;
 pub use read::be24_at;
 pub use read::be32_at;
 pub use read::be64_at;
@@ -14,8 +13,5 @@ pub use run::copy_limited;
 pub use signed::difference;
 pub use signed::signed24;
 pub use signed::signed64;
-pub use write::put16_at;
-pub use write::put24_at;
 pub use write::put32_at;
-pub use write::put64_at;
 pub use write::set32_at;

@@ -5,14 +5,6 @@ ghost use lib.ListN.{length};
 ghost use Rattle.words.specs.Words.{be};
 ghost use Rattle.words.specs.Order.{le32, swapped};
 
-// The two bytes at `at`.
-pub fn be16_at(s: &[u8], at: usize) -> u32
-    requires { ⌜ at + 2 ≤ length (now s) ⌝ }
-    ensures { λ r. ⌜ r ≡ be 2 (now (s .entry)) at ⌝ }
-{
-    ((s[at] as u32) << 8) | (s[at + 1] as u32)
-}
-
 // The three bytes at `at`.
 pub fn be24_at(s: &[u8], at: usize) -> u32
     requires { ⌜ at + 3 ≤ length (now s) ⌝ }

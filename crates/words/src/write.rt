@@ -5,25 +5,6 @@ ghost use lib.ListN.{length};
 ghost use Rattle.words.specs.Words.{bytes, over};
 use crate::read::be32_at;
 
-// The lowest two bytes of v, at `at`.
-pub fn put16_at(s: &mut [u8], at: usize, v: u32)
-    requires { ⌜ at + 2 ≤ length (now s) ⌝ }
-    ensures { λ _. ⌜ now (s .exit) ≡ over (now (s .entry)) at (bytes 2 v) ⌝ }
-{
-    s[at] = (v >> 8 & 255) as u8;
-    s[at + 1] = (v & 255) as u8;
-}
-
-// The lowest three bytes of v, at `at`.
-pub fn put24_at(s: &mut [u8], at: usize, v: u32)
-    requires { ⌜ at + 3 ≤ length (now s) ⌝ }
-    ensures { λ _. ⌜ now (s .exit) ≡ over (now (s .entry)) at (bytes 3 v) ⌝ }
-{
-    s[at] = (v >> 16 & 255) as u8;
-    s[at + 1] = (v >> 8 & 255) as u8;
-    s[at + 2] = (v & 255) as u8;
-}
-
 // The four bytes of v, at `at`.
 pub fn put32_at(s: &mut [u8], at: usize, v: u32)
     requires { ⌜ at + 4 ≤ length (now s) ⌝ }
@@ -33,15 +14,6 @@ pub fn put32_at(s: &mut [u8], at: usize, v: u32)
     s[at + 1] = (v >> 16 & 255) as u8;
     s[at + 2] = (v >> 8 & 255) as u8;
     s[at + 3] = (v & 255) as u8;
-}
-
-// The eight bytes of v, at `at`.
-pub fn put64_at(s: &mut [u8], at: usize, v: u64)
-    requires { ⌜ at + 8 ≤ length (now s) ⌝ }
-    ensures { λ _. ⌜ now (s .exit) ≡ over (now (s .entry)) at (bytes 8 v) ⌝ }
-{
-    put32_at(s, at, (v >> 32) as u32);
-    put32_at(s, at + 4, (v & 0xffff_ffff) as u32);
 }
 
 // The four bytes of v, at `at`, with no store where they stand there already: an image that stays as it is may be lent

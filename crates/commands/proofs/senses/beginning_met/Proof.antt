@@ -1,14 +1,14 @@
--- What `told` ensures of these parts: written out, so that a wrong part is refused here and not at a caller.
+-- What `met` ensures of these parts: written out, so that a wrong part is refused here and not at a caller.
 -- Assumes nothing.
 use borrow.Author.Needs.{needs}
 use Rattle.commands.proofs.senses.beginning_met.Statement.{statement}
 use Rattle.commands.proofs.senses.beginning_met.Tie as tie
 
-told-requires : tie.Need-told-requires
-told-requires c κs = search needs
+met-requires : tie.Need-met-requires
+met-requires c κs = search needs
 
 returns : tie.Need-returns
-returns c = c .told .ensures
+returns c = c .met .ensures
 
 pub beginning-met-spec : {M : Type 1} → statement M
-beginning-met-spec = tie.close (tie.spec told-requires returns)
+beginning-met-spec = tie.close (tie.spec met-requires returns)

@@ -5,12 +5,12 @@ use mathlib.Core.Bool.{Bool, false}
 use lib.IntN.{ℤ}
 use borrow.Author.Needs.{needs}
 use Rattle.sense.specs.declared.Sense.{Sense}
-use Rattle.sense.specs.Sense.{blankCheck, told}
+use Rattle.sense.specs.Sense.{blankCheck, noAdditional, endOfDataDetected, told}
 use Rattle.commands.proofs.senses.end_told.Statement.{statement}
 use Rattle.commands.proofs.senses.end_told.Tie as tie
 
-with-bit : (counts a b : Bool) (z : ℤ) → a ≡ b → (t : Sense) → t ≡ told counts false a false blankCheck 0x00 0x05 z → t ≡ told counts false b false blankCheck 0x00 0x05 z
-with-bit counts a b z e t q = q ∙ ap (λ (eom : Bool). told counts false eom false blankCheck 0x00 0x05 z) e
+with-bit : (counts a b : Bool) (z : ℤ) → a ≡ b → (t : Sense) → t ≡ told counts false a false blankCheck noAdditional endOfDataDetected z → t ≡ told counts false b false blankCheck noAdditional endOfDataDetected z
+with-bit counts a b z e t q = q ∙ ap (λ (eom : Bool). told counts false eom false blankCheck noAdditional endOfDataDetected z) e
 
 eom-at-end-requires : tie.Need-eom-at-end-requires
 eom-at-end-requires c κs = search needs
