@@ -5,9 +5,9 @@
  *   - a pointer is NULL only with length 0;
  *   - nothing else maps or writes their bytes meanwhile.
  * Beyond that, bytes, lengths and numbers may have any value: what is wrong is refused by number, and a refused call
- * changes no byte. A partition that a call only reads, that is not the current one, or whose call is refused or ends in a
- * test gets no store at all, so it may be mapped read-only. (A WRITE or an ERASE that finds just its bytes there already
- * may store them again.)
+ * changes no byte. A partition that a call only reads, that is not the current one, or whose call is refused or ends in
+ * a test gets no store at all, so it may be mapped read-only. (A WRITE or an ERASE that finds just its bytes there
+ * already may store them again.)
  */
 #ifndef STORMTOGGLE_H
 #define STORMTOGGLE_H
@@ -24,20 +24,30 @@ extern "C" {
 /* Bits 0 to 31: bytes carried. */
 #define STORMTOGGLE_CARRIED(answer) ((uint32_t)(answer))
 
-/* Bits 32 to 34: the refusal, 0 for none.
- *   1  the command block is empty, or shorter than its operation code says
- *   2  fewer bytes are sent than the command takes
- *   3  the receiving buffer is shorter than the command may need
- *   4  the record is not 30 bytes, or ill-formed; for a command, also if it is loaded and a partition lent is unsound,
- *      the number of partitions is not the record's, or the position is above N
- *   5  a cartridge is loaded already
- *   6  an image is unsound
- *   7  an image's length is outside 64 to 1,073,741,824
- */
+/* Bits 32 to 34: the refusal, 0 for none. */
 #define STORMTOGGLE_REFUSAL(answer) ((unsigned)((uint64_t)(answer) >> 32 & 7))
+enum {
+    STORMTOGGLE_BY_COMMAND = 1,  /* the command block is empty, or shorter than its operation code says */
+    STORMTOGGLE_BY_SENT = 2,     /* fewer bytes are sent than the command takes */
+    STORMTOGGLE_BY_RECEIVED = 3, /* the receiving buffer is shorter than the command may need */
+    STORMTOGGLE_BY_DRIVE = 4,    /* the record is not 30 bytes, or ill-formed; for a command, also if it is loaded and a
+                                  * partition lent is unsound, the number of partitions is not the record's, or the
+                                  * position is above N */
+    STORMTOGGLE_BY_LOADED = 5,   /* a cartridge is loaded already */
+    STORMTOGGLE_BY_UNSOUND = 6,  /* an image is unsound */
+    STORMTOGGLE_BY_LENGTH = 7    /* an image's length is outside 64 to 1,073,741,824 */
+};
 
-/* Bit 35: the SCSI status, 00h or 02h. */
+/* Bit 35: the SCSI status. */
 #define STORMTOGGLE_STATUS(answer) ((unsigned)((uint64_t)(answer) >> 35 & 1) << 1)
+enum { STORMTOGGLE_GOOD = 0x00, STORMTOGGLE_CHECK_CONDITION = 0x02 };
+
+/* How long a partition's image, and a block in it, may be. */
+enum {
+    STORMTOGGLE_SHORTEST_IMAGE = 64,
+    STORMTOGGLE_LONGEST_IMAGE = 1073741824,
+    STORMTOGGLE_LARGEST_BLOCK = 65536
+};
 
 /* The drive record: how long it is, and where each field starts. The daemon keeps its bytes between calls and may show
  * them; only the services write them. Position and block length are big-endian. */
@@ -49,9 +59,23 @@ enum {
     STORMTOGGLE_RECORD_ATTENTION = 3,    /* 1 byte: what waits to be told, 28h or 29h; 00h if nothing does */
     STORMTOGGLE_RECORD_POSITION = 4,     /* 4 bytes: the object number; 0 while unloaded */
     STORMTOGGLE_RECORD_BLOCK_LENGTH = 8, /* 4 bytes: at most 65,536; 0 means variable */
-    STORMTOGGLE_RECORD_SENSE = 12,       /* 18 bytes, any: the kept sense; empty is 70h first, 0Ah in byte 7, else 0 */
-    STORMTOGGLE_SENSE_LENGTH = 18
+    STORMTOGGLE_RECORD_SENSE = 12        /* 18 bytes, any: the kept sense; empty is 70h first, 0Ah in byte 7, else 0 */
 };
+
+/* The kept sense, which REQUEST SENSE gives too: how long it is, and where each field starts. Other bytes are 0. */
+enum {
+    STORMTOGGLE_SENSE_LENGTH = 18,
+    STORMTOGGLE_SENSE_FIRST = 0,       /* 1 byte: F0h if the information is valid, else 70h */
+    STORMTOGGLE_SENSE_KEY = 2,         /* 1 byte: FILEMARK, EOM and ILI in its high bits, the key in its low four */
+    STORMTOGGLE_SENSE_INFORMATION = 3, /* 4 bytes, big-endian: the residue in two's complement; 0 if not valid */
+    STORMTOGGLE_SENSE_REST = 7,        /* 1 byte: 0Ah, the number of bytes behind it */
+    STORMTOGGLE_SENSE_ASC = 12,        /* 1 byte */
+    STORMTOGGLE_SENSE_ASCQ = 13        /* 1 byte */
+};
+
+/* The values of its first byte, and the parts of the byte that has the key. */
+enum { STORMTOGGLE_VALID = 0xf0, STORMTOGGLE_NOT_VALID = 0x70 };
+enum { STORMTOGGLE_FILEMARK = 0x80, STORMTOGGLE_EOM = 0x40, STORMTOGGLE_ILI = 0x20, STORMTOGGLE_KEY = 0x0f };
 
 /* Makes a fresh drive record: attention 29h, the empty sense, every other byte 0. Refusal 4, for its length only. */
 uint64_t stormtoggle_fresh(uint8_t *record, size_t record_len);
