@@ -2,6 +2,7 @@
 #ifndef CHECK_H
 #define CHECK_H
 
+#include "numbers.h"
 #include <inttypes.h>
 #include <stdarg.h>
 #include <stdint.h>
@@ -16,7 +17,10 @@
 
 /* The whole answer of a house service. */
 #define DONE UINT64_C(0)
-#define REFUSED(number) ((uint64_t)(number) << 32)
+#define REFUSED(number) ((uint64_t)(number) << ANSWER_REFUSAL)
+
+/* The view of a block. */
+#define FOUND(start, length) ((uint64_t)(start) << VIEW_START | (length))
 
 static unsigned long checks_passed, checks_failed;
 

@@ -9,7 +9,7 @@
 
 /* ---- the cartridges */
 
-/* Objects are words: bK is a block of K bytes, f a filemark, fK is K of them. */
+/* Objects are words: bK is a block of K bytes, B the largest there is, f a filemark, fK is K of them. */
 enum cartridge { NONE, E, GUARDED, BLANK, BLANK_65, TEN, FULL, MIXED, BIG, UNSOUND };
 
 /* Free bytes are not 0, so that a byte that is zeroed or moved shows; E alone is the document's, byte by byte. */
@@ -20,15 +20,15 @@ static const struct tape {
     const char *objects;
 } tapes[] = {
     [NONE] = {0, 0, 0x00, ""},
-    [E] = {64, 0, 0x00, "b3 f"},
-    [GUARDED] = {64, 1, 0x00, "b3 f"},
-    [BLANK] = {64, 0, 0xee, ""},
-    [BLANK_65] = {65, 0, 0xee, ""},
-    [TEN] = {64, 0, 0xee, "b10"},
-    [FULL] = {64, 0, 0xee, "b44"},
+    [E] = {E_BYTES, 0, 0x00, "b3 f"},
+    [GUARDED] = {E_BYTES, FLAG_PROTECTED, 0x00, "b3 f"},
+    [BLANK] = {SHORTEST, 0, 0xee, ""},
+    [BLANK_65] = {SHORTEST + 1, 0, 0xee, ""},
+    [TEN] = {SHORTEST, 0, 0xee, "b10"},
+    [FULL] = {SHORTEST, 0, 0xee, "b44"},
     [MIXED] = {96, 0, 0xee, "b3 f b3 b3 b5 f b3"},
-    [BIG] = {131136, 0, 0xee, "b65536"},
-    [UNSOUND] = {64, 2, 0x00, "b3 f"},
+    [BIG] = {2 * LARGEST_BLOCK + SHORTEST, 0, 0xee, "B"},
+    [UNSOUND] = {E_BYTES, 2 * FLAG_PROTECTED, 0x00, "b3 f"},
 };
 
 /* Puts objects from a number on; blocks take the source's bytes one after the other, or bytes by their own number. */
@@ -36,33 +36,32 @@ static inline void put_objects(uint8_t *image, size_t length, size_t number, con
 {
     size_t end = end_at(image, length, number);
     for (const char *word = words; *word != '\0'; word += strspn(word, " ")) {
-        size_t count = strtoul(word + 1, NULL, 10);
-        if (*word == 'b') {
+        size_t count = *word == 'B' ? LARGEST_BLOCK : strtoul(word + 1, NULL, 10);
+        if (*word == 'b' || *word == 'B') {
             for (size_t i = 0; i < count; i++)
                 image[end + i] = source != NULL ? *source++ : (uint8_t)(16 * number + i + 1);
             end += count;
             set_entry(image, length, number++, (uint32_t)end);
         } else {
             for (size_t i = 0; i < (count == 0 ? 1 : count); i++)
-                set_entry(image, length, number++, FILEMARK | (uint32_t)end);
+                set_entry(image, length, number++, ENTRY_FILEMARK | (uint32_t)end);
         }
         word += strcspn(word, " ");
     }
-    lay_trailer(image, length, number, get_field(image, length, FLAGS));
+    lay_trailer(image, length, number, get_field(image, length, TRAILER_FLAGS));
 }
 
 /* ---- a case */
 
 #define BYTES(...) {sizeof((uint8_t[]){__VA_ARGS__}), {__VA_ARGS__}}
 
-/* What CHECK CONDITION tells: byte 0 of the sense (0 stands for GOOD, and the empty sense), byte 2 and so on. */
+/* What CHECK CONDITION tells: byte 0 of the sense (0 stands for GOOD, and the empty sense), what, and its residue. */
 struct told {
-    uint8_t first, flags_and_key, asc, ascq;
-    uint32_t information;
+    uint8_t first;
+    uint32_t number, information;
 };
-#define PLAIN(key, asc, ascq) {0x70, key, asc, ascq, 0}
-#define RESIDUE(flags_and_key, asc, ascq, information) {0xf0, flags_and_key, asc, ascq, information}
-enum { FILEMARK_MET = 0x80, EOM = 0x40, ILI = 0x20, BLANK_CHECK = 0x08, OVERFLOWED = 0x0d };
+#define PLAIN(number) {STORMTOGGLE_NOT_VALID, number, 0}
+#define RESIDUE(number, information) {STORMTOGGLE_VALID, number, information}
 
 enum erasure { NOT_ERASED, CUT, CUT_AND_ZEROED };
 
@@ -90,10 +89,11 @@ struct edge {
 /* No command may leave this sense: it is neither empty nor any that a drive tells. */
 #define OLD_SENSE {0xf0, 0x5a, 0x25, 0xde, 0xad, 0xbe, 0xef, 0x0b, 1, 2, 3, 4, 0x24, 0x7f, 5, 6, 7, 8}
 #define LOADED(attention, position, block_length) {1, 1, 0, attention, position, block_length, OLD_SENSE}
-#define AT(position) LOADED(0x00, position, 0)
-#define SET(block_length, position) LOADED(0x00, position, block_length)
-#define TWO(current, position) {1, 2, current, 0x00, position, 0, OLD_SENSE}
+#define AT(position) LOADED(ATTENTION_NONE, position, 0)
+#define SET(block_length, position) LOADED(ATTENTION_NONE, position, block_length)
+#define TWO(current, position) {1, 2, current, ATTENTION_NONE, position, 0, OLD_SENSE}
 #define BARE(attention, block_length) {0, 0, 0, attention, 0, block_length, OLD_SENSE}
+#define EMPTY(block_length) BARE(ATTENTION_NONE, block_length)
 
 /* ---- the call */
 
@@ -142,13 +142,13 @@ static inline void make_tape(struct call *call, enum span span, enum cartridge c
 static inline void lay_told(uint8_t *record, const struct drive *drive, const struct told *told)
 {
     struct drive left = *drive;
-    memcpy(left.sense, (uint8_t[SENSE])EMPTY_SENSE, SENSE);
+    memcpy(left.sense, (uint8_t[SENSE_BYTES])EMPTY_SENSE, SENSE_BYTES);
     if (told->first != 0) {
-        left.sense[0] = told->first;
-        left.sense[2] = told->flags_and_key;
-        put32(left.sense + 3, told->information);
-        left.sense[12] = told->asc;
-        left.sense[13] = told->ascq;
+        left.sense[STORMTOGGLE_SENSE_FIRST] = told->first;
+        left.sense[STORMTOGGLE_SENSE_KEY] = TOLD_BYTE_2(told->number);
+        put32(left.sense + STORMTOGGLE_SENSE_INFORMATION, told->information);
+        left.sense[STORMTOGGLE_SENSE_ASC] = TOLD_ASC(told->number);
+        left.sense[STORMTOGGLE_SENSE_ASCQ] = TOLD_ASCQ(told->number);
     }
     lay_drive(record, &left);
 }
@@ -156,10 +156,10 @@ static inline void lay_told(uint8_t *record, const struct drive *drive, const st
 /* The slices as they are lent; what is left is the same until something is laid over it. */
 static inline void make_lent(struct call *call, const struct edge *edge)
 {
-    uint8_t record[RECORD + 8] = {0}, *pattern = patterned(edge->sent);
+    uint8_t record[RECORD_BYTES + 8] = {0}, *pattern = patterned(edge->sent);
     int listed = edge->list.length > 0;
     lay_drive(record, &edge->before);
-    make_span(call, THE_RECORD, (size_t)(RECORD - edge->cut), 0);
+    make_span(call, THE_RECORD, (size_t)(RECORD_BYTES - edge->cut), 0);
     make_equal(call, THE_RECORD, record);
     make_span(call, THE_COMMAND, edge->command.length, 0);
     make_equal(call, THE_COMMAND, edge->command.at);
@@ -181,8 +181,8 @@ static inline void change_tape(struct call *call, const struct edge *edge, enum 
     if (edge->erased == NOT_ERASED)
         return;
     end = end_at(image, length, from);
-    lay_trailer(image, length, from, get_field(image, length, FLAGS));
-    directory = get_field(image, length, DIRECTORY);
+    lay_trailer(image, length, from, get_field(image, length, TRAILER_FLAGS));
+    directory = get_field(image, length, TRAILER_D);
     if (edge->erased == CUT_AND_ZEROED)
         memset(image + end, 0, directory - end);
 }
@@ -195,7 +195,8 @@ static inline struct call call_of(const struct edge *edge)
     call.answer = REFUSED(edge->refusal);
     if (edge->refusal != 0)
         return call;
-    call.answer = (uint64_t)(edge->told.first != 0) << 35 | (edge->carried + edge->data.length + edge->reads);
+    call.answer = (uint64_t)(edge->told.first != 0) << ANSWER_STATUS;
+    call.answer |= edge->carried + edge->data.length + edge->reads;
     lay_told(call.after[THE_RECORD], &edge->after, &edge->told);
     memcpy(call.after[THE_RECEIVED], edge->data.at, edge->data.length);
     if (edge->reads > 0)

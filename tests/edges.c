@@ -8,33 +8,33 @@
 
 static const struct edge documented[] = {
     {"P1: a block that leaves no room is put, with a warning", BLANK, SIX(WRITE, 0, 44), AT(0),
-     .sent = 44, .after = AT(1), .told = RESIDUE(EOM, 0x00, 0x02, 0), .carried = 44, .puts = "b44"},
+     .sent = 44, .after = AT(1), .told = RESIDUE(TOLD_ZONE, 0), .carried = 44, .puts = "b44"},
     {"P2: a block one byte too long is not put", BLANK, SIX(WRITE, 0, 45), AT(0),
-     .sent = 45, .after = AT(0), .told = RESIDUE(EOM | OVERFLOWED, 0x00, 0x02, 45)},
+     .sent = 45, .after = AT(0), .told = RESIDUE(TOLD_OVERFLOW, 45)},
     {"P3: seven filemarks behind ten bytes end before the zone", TEN, SIX(WRITE_FILEMARKS, 0, 7), AT(1),
      .after = AT(8), .puts = "f7"},
     {"P4: eight filemarks behind ten bytes end in the zone", TEN, SIX(WRITE_FILEMARKS, 0, 8), AT(1),
-     .after = AT(9), .told = RESIDUE(EOM, 0x00, 0x02, 0), .puts = "f8"},
+     .after = AT(9), .told = RESIDUE(TOLD_ZONE, 0), .puts = "f8"},
     {"P5: of nine filemarks eight are put", TEN, SIX(WRITE_FILEMARKS, 0, 9), AT(1),
-     .after = AT(9), .told = RESIDUE(EOM | OVERFLOWED, 0x00, 0x02, 1), .puts = "f8"},
+     .after = AT(9), .told = RESIDUE(TOLD_OVERFLOW, 1), .puts = "f8"},
     {"P6: READ 5 of a block of 3", E, SIX(READ, 0, 5), AT(0),
-     .room = 16, .after = AT(1), .told = RESIDUE(ILI, 0x00, 0x00, 2), .data = BYTES(1, 2, 3)},
+     .room = 16, .after = AT(1), .told = RESIDUE(TOLD_LENGTH, 2), .data = BYTES(1, 2, 3)},
     {"P7: READ 2 of a block of 3", E, SIX(READ, 0, 2), AT(0),
-     .room = 16, .after = AT(1), .told = RESIDUE(ILI, 0x00, 0x00, 0xffffffff), .data = BYTES(1, 2)},
+     .room = 16, .after = AT(1), .told = RESIDUE(TOLD_LENGTH, 0xffffffff), .data = BYTES(1, 2)},
     {"P7: READ 2 of a block of 3 with SILI", E, SIX(READ, SILI, 2), AT(0),
      .room = 16, .after = AT(1), .data = BYTES(1, 2)},
     {"P8: FIXED READ 2 of block and filemark", E, SIX(READ, FIXED, 2), SET(3, 0),
-     .room = 16, .after = SET(3, 2), .told = RESIDUE(FILEMARK_MET, 0x00, 0x01, 1), .data = BYTES(1, 2, 3)},
+     .room = 16, .after = SET(3, 2), .told = RESIDUE(TOLD_FILEMARK, 1), .data = BYTES(1, 2, 3)},
     {"P9: FIXED READ 2 where the first block is odd", E, SIX(READ, FIXED, 2), SET(4, 0),
-     .room = 16, .after = SET(4, 1), .told = RESIDUE(ILI, 0x00, 0x00, 2)},
+     .room = 16, .after = SET(4, 1), .told = RESIDUE(TOLD_LENGTH, 2)},
     {"P10: SPACE blocks -5 meets the filemark", E, SIX(SPACE, BLOCKS, -5), AT(2),
-     .after = AT(1), .told = RESIDUE(FILEMARK_MET, 0x00, 0x01, 0xfffffffb)},
+     .after = AT(1), .told = RESIDUE(TOLD_FILEMARK, 0xfffffffb)},
     {"P11: SPACE blocks -5 meets the beginning", E, SIX(SPACE, BLOCKS, -5), AT(1),
-     .after = AT(0), .told = RESIDUE(EOM, 0x00, 0x04, 0xfffffffc)},
+     .after = AT(0), .told = RESIDUE(TOLD_BEGINNING, 0xfffffffc)},
     {"P12: LOCATE to N", E, LOCATE(0, 2, 0), AT(0), .after = AT(2)},
-    {"P12: LOCATE above N", E, LOCATE(0, 3, 0), AT(0), .after = AT(2), .told = PLAIN(BLANK_CHECK, 0x00, 0x05)},
+    {"P12: LOCATE above N", E, LOCATE(0, 3, 0), AT(0), .after = AT(2), .told = PLAIN(TOLD_END_OF_DATA)},
     {"READ 5 of a filemark", E, SIX(READ, 0, 5), AT(1),
-     .room = 16, .after = AT(2), .told = RESIDUE(FILEMARK_MET, 0x00, 0x01, 5)},
+     .room = 16, .after = AT(2), .told = RESIDUE(TOLD_FILEMARK, 5)},
 };
 
 /* ---- slips that a drive easily makes, each with the cases that show it */
@@ -42,48 +42,48 @@ static const struct edge documented[] = {
 static const struct edge slips[] = {
     /* Nothing is cut before the first object is known to fit. */
     {"slip 1: a block too long at 0 of E cuts nothing", E, SIX(WRITE, 0, 45), AT(0),
-     .sent = 45, .after = AT(0), .told = RESIDUE(EOM | OVERFLOWED, 0x00, 0x02, 45)},
+     .sent = 45, .after = AT(0), .told = RESIDUE(TOLD_OVERFLOW, 45)},
     {"slip 1: a FIXED block too long at 0 of E cuts nothing", E, SIX(WRITE, FIXED, 2), SET(45, 0),
-     .sent = 90, .after = SET(45, 0), .told = RESIDUE(EOM | OVERFLOWED, 0x00, 0x02, 2)},
+     .sent = 90, .after = SET(45, 0), .told = RESIDUE(TOLD_OVERFLOW, 2)},
     {"slip 1: a block too long amid objects cuts nothing", MIXED, SIX(WRITE, 0, 70), AT(2),
-     .sent = 70, .after = AT(2), .told = RESIDUE(EOM | OVERFLOWED, 0x00, 0x02, 70)},
+     .sent = 70, .after = AT(2), .told = RESIDUE(TOLD_OVERFLOW, 70)},
     {"slip 1: a filemark on a full partition", FULL, SIX(WRITE_FILEMARKS, 0, 1), AT(1),
-     .after = AT(1), .told = RESIDUE(EOM | OVERFLOWED, 0x00, 0x02, 1)},
+     .after = AT(1), .told = RESIDUE(TOLD_OVERFLOW, 1)},
     /* Objects beyond the position take no room. */
     {"slip 2: a block as large as the one that fills the partition", FULL, SIX(WRITE, 0, 44), AT(0),
-     .sent = 44, .after = AT(1), .told = RESIDUE(EOM, 0x00, 0x02, 0), .carried = 44, .puts = "b44"},
+     .sent = 44, .after = AT(1), .told = RESIDUE(TOLD_ZONE, 0), .carried = 44, .puts = "b44"},
     {"slip 2: a small block over one that fills the partition", FULL, SIX(WRITE, 0, 1), AT(0),
      .sent = 1, .after = AT(1), .carried = 1, .puts = "b1"},
     {"slip 2: a filemark over a block that fills the partition", FULL, SIX(WRITE_FILEMARKS, 0, 1), AT(0),
      .after = AT(1), .puts = "f"},
     {"slip 2: the room amid objects, to its last byte", MIXED, SIX(WRITE, 0, 65), AT(2),
-     .sent = 65, .after = AT(3), .told = RESIDUE(EOM, 0x00, 0x02, 0), .carried = 65, .puts = "b65"},
+     .sent = 65, .after = AT(3), .told = RESIDUE(TOLD_ZONE, 0), .carried = 65, .puts = "b65"},
     /* A filemark met going back is crossed: the position is on its beginning side. */
     {"slip 3: SPACE blocks -1 over a filemark", E, SIX(SPACE, BLOCKS, -1), AT(2),
-     .after = AT(1), .told = RESIDUE(FILEMARK_MET, 0x00, 0x01, 0xffffffff)},
+     .after = AT(1), .told = RESIDUE(TOLD_FILEMARK, 0xffffffff)},
     {"slip 3: SPACE blocks -2 over a block and a filemark", MIXED, SIX(SPACE, BLOCKS, -2), AT(7),
-     .after = AT(5), .told = RESIDUE(FILEMARK_MET, 0x00, 0x01, 0xffffffff)},
+     .after = AT(5), .told = RESIDUE(TOLD_FILEMARK, 0xffffffff)},
     {"slip 3: SPACE filemarks -1", MIXED, SIX(SPACE, FILEMARKS, -1), AT(7), .after = AT(5)},
     {"slip 3: SPACE filemarks -2", MIXED, SIX(SPACE, FILEMARKS, -2), AT(7), .after = AT(1)},
     /* A block of another length is crossed, and is none of those read. */
     {"slip 4: FIXED READ 3, the third block odd", MIXED, SIX(READ, FIXED, 3), SET(3, 2),
-     .room = 16, .after = SET(3, 5), .told = RESIDUE(ILI, 0x00, 0x00, 1), .reads = 6},
+     .room = 16, .after = SET(3, 5), .told = RESIDUE(TOLD_LENGTH, 1), .reads = 6},
     {"slip 4: FIXED READ 1, the block longer", MIXED, SIX(READ, FIXED, 1), SET(3, 4),
-     .room = 16, .after = SET(3, 5), .told = RESIDUE(ILI, 0x00, 0x00, 1)},
+     .room = 16, .after = SET(3, 5), .told = RESIDUE(TOLD_LENGTH, 1)},
     {"slip 4: FIXED READ 1, the block shorter", MIXED, SIX(READ, FIXED, 1), SET(5, 3),
-     .room = 16, .after = SET(5, 4), .told = RESIDUE(ILI, 0x00, 0x00, 1)},
+     .room = 16, .after = SET(5, 4), .told = RESIDUE(TOLD_LENGTH, 1)},
     /* REQUEST SENSE answers the attention that waits, not the kept sense, and clears both. */
-    {"slip 5: REQUEST SENSE while 28h waits", E, SIX(REQUEST_SENSE, 0, 18), LOADED(0x28, 1, 3), .room = 20,
-     .after = SET(3, 1), .data = BYTES(0x70, 0, 6, 0, 0, 0, 0, 0x0a, 0, 0, 0, 0, 0x28, 0, 0, 0, 0, 0)},
-    {"slip 5: REQUEST SENSE while 29h waits", NONE, SIX(REQUEST_SENSE, 0, 18), BARE(0x29, 3), .room = 20,
-     .after = BARE(0x00, 3), .data = BYTES(0x70, 0, 6, 0, 0, 0, 0, 0x0a, 0, 0, 0, 0, 0x29, 0, 0, 0, 0, 0)},
+    {"slip 5: REQUEST SENSE while 28h waits", E, SIX(REQUEST_SENSE, 0, SENSE_BYTES), LOADED(ATTENTION_MOUNTED, 1, 3),
+     .room = 20, .after = SET(3, 1), .data = BYTES(0x70, 0, 6, 0, 0, 0, 0, 0x0a, 0, 0, 0, 0, 0x28, 0, 0, 0, 0, 0)},
+    {"slip 5: REQUEST SENSE while 29h waits", NONE, SIX(REQUEST_SENSE, 0, SENSE_BYTES), BARE(ATTENTION_FRESH, 3),
+     .room = 20, .after = EMPTY(3), .data = BYTES(0x70, 0, 6, 0, 0, 0, 0, 0x0a, 0, 0, 0, 0, 0x29, 0, 0, 0, 0, 0)},
 };
 
 /* ---- one drive's life: each call finds the bytes that the last one left */
 
 static const struct edge life[] = {
     {.what = "the mount is told", .command = SIX(TEST_UNIT_READY, 0, 0), .after = TWO(0, 0),
-     .told = PLAIN(6, 0x28, 0x00)},
+     .told = PLAIN(TOLD_MOUNTED)},
     {.what = "and told once", .command = SIX(TEST_UNIT_READY, 0, 0), .after = TWO(0, 0)},
     {.what = "READ of E's block", .command = SIX(READ, 0, 3), .after = TWO(0, 1), .data = BYTES(1, 2, 3)},
     {.what = "LOCATE to the blank", .command = LOCATE(CP, 0, 1), .after = TWO(1, 0)},
@@ -92,34 +92,35 @@ static const struct edge life[] = {
     {.what = "SPACE back over it", .command = SIX(SPACE, FILEMARKS, -1), .after = TWO(1, 1)},
     {.what = "ERASE of it", .command = SIX(ERASE, 0, 0), .after = TWO(1, 1)},
     {.what = "end of data", .command = SIX(READ, 0, 4), .after = TWO(1, 1),
-     .told = RESIDUE(BLANK_CHECK, 0x00, 0x05, 4)},
-    {.what = "its sense", .command = SIX(REQUEST_SENSE, 0, 18), .after = TWO(1, 1),
+     .told = RESIDUE(TOLD_END_OF_DATA, 4)},
+    {.what = "its sense", .command = SIX(REQUEST_SENSE, 0, SENSE_BYTES), .after = TWO(1, 1),
      .data = BYTES(0xf0, 0, 8, 0, 0, 0, 4, 0x0a, 0, 0, 0, 0, 0, 5, 0, 0, 0, 0)},
-    {.what = "which is gone then", .command = SIX(REQUEST_SENSE, 0, 18), .after = TWO(1, 1),
+    {.what = "which is gone then", .command = SIX(REQUEST_SENSE, 0, SENSE_BYTES), .after = TWO(1, 1),
      .data = BYTES(0x70, 0, 0, 0, 0, 0, 0, 0x0a, 0, 0, 0, 0, 0, 0, 0, 0, 0, 0)},
     {.what = "REWIND stays on the partition", .command = SIX(REWIND, 0, 0), .after = TWO(1, 0)},
     {.what = "READ of what was written", .command = SIX(READ, 0, 2), .after = TWO(1, 1), .data = BYTES(8, 9)},
-    {.what = "block length 2", .command = SIX(MODE_SELECT, PF, 12), .list = BYTES(0, 0, 0, 8, 0, 0, 0, 0, 0, 0, 0, 2),
-     .after = {1, 2, 1, 0x00, 1, 2, {0}}, .carried = 12},
-    {.what = "unload", .command = SIX(LOAD_UNLOAD, 0, 0), .after = BARE(0x00, 2)},
-    {.what = "not ready then", .command = SIX(TEST_UNIT_READY, 0, 0), .after = BARE(0x00, 2),
-     .told = PLAIN(2, 0x3a, 0x00)},
-    {.what = "no LOAD of what is not there", .command = SIX(LOAD_UNLOAD, 0, 1), .after = BARE(0x00, 2),
-     .told = PLAIN(2, 0x3a, 0x00)},
-    {.what = "the block length is kept", .command = PAGE(0, 0x00, 255), .after = BARE(0x00, 2),
+    {.what = "block length 2", .command = SIX(MODE_SELECT, PF, MODE_BYTES),
+     .list = BYTES(0, 0, 0, 8, 0, 0, 0, 0, 0, 0, 0, 2), .after = {1, 2, 1, ATTENTION_NONE, 1, 2, {0}},
+     .carried = MODE_BYTES},
+    {.what = "unload", .command = SIX(LOAD_UNLOAD, 0, 0), .after = EMPTY(2)},
+    {.what = "not ready then", .command = SIX(TEST_UNIT_READY, 0, 0), .after = EMPTY(2),
+     .told = PLAIN(TOLD_NOT_LOADED)},
+    {.what = "no LOAD of what is not there", .command = SIX(LOAD_UNLOAD, 0, LOAD), .after = EMPTY(2),
+     .told = PLAIN(TOLD_NOT_LOADED)},
+    {.what = "the block length is kept", .command = PAGE(0, PAGE_NONE, 255), .after = EMPTY(2),
      .data = BYTES(0x0b, 0, 0, 8, 0, 0, 0, 0, 0, 0, 0, 2)},
 };
 
 static void live(uint8_t *record, uint8_t *p0, uint8_t *p1, const struct edge *step)
 {
-    uint8_t want[RECORD], data[36] = {0}, *received = lend(data, sizeof data);
-    uint64_t carried = step->carried + step->data.length;
-    uint64_t answer = stormtoggle_command(record, RECORD, step->command.at, step->command.length, p0, 64, p1, 64,
-                                          step->list.at, step->list.length, received, sizeof data);
+    uint8_t want[RECORD_BYTES], data[36] = {0}, *received = lend(data, sizeof data);
+    uint64_t want_answer = (uint64_t)(step->told.first != 0) << ANSWER_STATUS | (step->carried + step->data.length);
+    uint64_t answer = stormtoggle_command(record, RECORD_BYTES, step->command.at, step->command.length, p0, E_BYTES, p1,
+                                          SHORTEST, step->list.at, step->list.length, received, sizeof data);
     lay_told(want, &step->after, &step->told);
     memcpy(data, step->data.at, step->data.length);
-    expect_equal(answer, (uint64_t)(step->told.first != 0) << 35 | carried, "answer in a life, %s", step->what);
-    expect_bytes(record, want, RECORD, "record in a life, %s", step->what);
+    expect_equal(answer, want_answer, "answer in a life, %s", step->what);
+    expect_bytes(record, want, RECORD_BYTES, "record in a life, %s", step->what);
     expect_bytes(received, data, sizeof data, "received in a life, %s", step->what);
     take_back(received, sizeof data);
     cases_run++;
@@ -129,24 +130,24 @@ static void live(uint8_t *record, uint8_t *p0, uint8_t *p1, const struct edge *s
 static void one_life(void)
 {
     static const uint8_t written[] = {8, 9};
-    uint8_t blank[SHORTEST] = {0}, want[SHORTEST], zeros[RECORD] = {0};
-    uint8_t *record = lend(zeros, RECORD), *p0 = lend(example_e, 64), *p1;
+    uint8_t blank[SHORTEST] = {0}, want[SHORTEST], zeros[RECORD_BYTES] = {0};
+    uint8_t *record = lend(zeros, RECORD_BYTES), *p0 = lend(example_e, E_BYTES), *p1;
     lay_trailer(blank, sizeof blank, 0, 0);
     p1 = lend(blank, sizeof blank);
     memcpy(want, blank, sizeof want);
     put_objects(want, sizeof want, 0, "b2 f", written);
     lay_trailer(want, sizeof want, 1, 0);
-    expect_equal(stormtoggle_fresh(record, RECORD), DONE, "fresh in a life");
-    expect_equal(stormtoggle_mount(record, RECORD, p0, 64, p1, 64), DONE, "mount in a life");
+    expect_equal(stormtoggle_fresh(record, RECORD_BYTES), DONE, "fresh in a life");
+    expect_equal(stormtoggle_mount(record, RECORD_BYTES, p0, E_BYTES, p1, SHORTEST), DONE, "mount in a life");
     for (size_t i = 0; i < COUNT(life); i++)
         live(record, p0, p1, &life[i]);
-    expect_equal(stormtoggle_mount(record, RECORD, p0, 64, p1, 64), DONE, "mount after an unload");
+    expect_equal(stormtoggle_mount(record, RECORD_BYTES, p0, E_BYTES, p1, SHORTEST), DONE, "mount after an unload");
     expect_equal(get32(record + STORMTOGGLE_RECORD_BLOCK_LENGTH), 0, "block length after a mount");
-    expect_bytes(p0, example_e, 64, "partition 0 after a life");
-    expect_bytes(p1, want, 64, "partition 1 after a life");
-    take_back(p1, 64);
-    take_back(p0, 64);
-    take_back(record, RECORD);
+    expect_bytes(p0, example_e, E_BYTES, "partition 0 after a life");
+    expect_bytes(p1, want, SHORTEST, "partition 1 after a life");
+    take_back(p1, SHORTEST);
+    take_back(p0, E_BYTES);
+    take_back(record, RECORD_BYTES);
 }
 
 /* The cases' E is the document's, and all cartridges but one are sound. */

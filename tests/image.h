@@ -4,14 +4,8 @@
 
 #include "check.h"
 
-enum { SHORTEST = 64, LONGEST = 1073741824, LARGEST_BLOCK = 65536, TRAILER = 16 };
-#define FILEMARK 0x80000000u
-
-/* How far each field of the trailer lies from the image's end. */
-enum field { OBJECTS = 16, FLAGS = 12, DIRECTORY = 8, LENGTH = 4 };
-
-/* Example E: block 01 02 03, then a filemark. */
-static const uint8_t example_e[64] = {
+/* Example E as 01 prints it: block 01 02 03, then a filemark. */
+static const uint8_t example_e[E_BYTES] = {
     [0] = 0x01, 0x02, 0x03,
     [40] = 0x80, 0x00, 0x00, 0x03,
     [44] = 0x00, 0x00, 0x00, 0x03,
@@ -33,22 +27,22 @@ static inline void set_field(uint8_t *image, size_t length, enum field field, ui
 
 static inline void set_entry(uint8_t *image, size_t length, size_t object, uint32_t entry)
 {
-    put32(image + length - TRAILER - 4 * (object + 1), entry);
+    put32(image + length - TRAILER - ENTRY * (object + 1), entry);
 }
 
 /* end(n): where the data of the objects before n ends. */
 static inline size_t end_at(const uint8_t *image, size_t length, size_t number)
 {
-    return number == 0 ? 0 : get32(image + length - TRAILER - 4 * number) & ~FILEMARK;
+    return number == 0 ? 0 : get32(image + length - TRAILER - ENTRY * number) & ENTRY_END;
 }
 
 /* Lays the trailer of so many objects. */
 static inline void lay_trailer(uint8_t *image, size_t length, size_t objects, uint32_t flags)
 {
-    set_field(image, length, OBJECTS, (uint32_t)objects);
-    set_field(image, length, FLAGS, flags);
-    set_field(image, length, DIRECTORY, (uint32_t)(length - TRAILER - 4 * objects));
-    set_field(image, length, LENGTH, (uint32_t)length);
+    set_field(image, length, TRAILER_N, (uint32_t)objects);
+    set_field(image, length, TRAILER_FLAGS, flags);
+    set_field(image, length, TRAILER_D, (uint32_t)(length - TRAILER - ENTRY * objects));
+    set_field(image, length, TRAILER_L, (uint32_t)length);
 }
 
 /* Lays a directory and its trailer, flags 0. */
@@ -67,8 +61,8 @@ static inline int length_in_range(size_t length)
 /* Whether a block or a filemark may follow the end before it with this entry. */
 static inline int entry_follows(uint32_t entry, uint32_t before)
 {
-    uint32_t end = entry & ~FILEMARK;
-    if (entry & FILEMARK)
+    uint32_t end = entry & ENTRY_END;
+    if (entry & ENTRY_FILEMARK)
         return end == before;
     return end > before && end - before <= LARGEST_BLOCK;
 }
@@ -79,17 +73,17 @@ static inline int sound(const uint8_t *image, size_t length)
     uint32_t end = 0;
     if (!length_in_range(length))
         return 0;
-    objects = get_field(image, length, OBJECTS);
-    directory = get_field(image, length, DIRECTORY);
-    if (get_field(image, length, LENGTH) != length || get_field(image, length, FLAGS) > 1)
+    objects = get_field(image, length, TRAILER_N);
+    directory = get_field(image, length, TRAILER_D);
+    if (get_field(image, length, TRAILER_L) != length || get_field(image, length, TRAILER_FLAGS) > FLAG_PROTECTED)
         return 0;
-    if (directory + 4 * objects + TRAILER != length)
+    if (directory + ENTRY * objects + TRAILER != length)
         return 0;
     for (uint64_t i = 0; i < objects; i++) {
-        uint32_t entry = get32(image + length - TRAILER - 4 * (i + 1));
+        uint32_t entry = get32(image + length - TRAILER - ENTRY * (i + 1));
         if (!entry_follows(entry, end))
             return 0;
-        end = entry & ~FILEMARK;
+        end = entry & ENTRY_END;
     }
     return end <= directory;
 }
@@ -99,14 +93,14 @@ static inline uint64_t view_of(const uint8_t *image, size_t length, uint64_t obj
 {
     const uint8_t *entry;
     uint32_t start, end;
-    if (!sound(image, length) || object >= get_field(image, length, OBJECTS))
+    if (!sound(image, length) || object >= get_field(image, length, TRAILER_N))
         return 0;
-    entry = image + length - TRAILER - 4 * (object + 1);
-    if (get32(entry) & FILEMARK)
+    entry = image + length - TRAILER - ENTRY * (object + 1);
+    if (get32(entry) & ENTRY_FILEMARK)
         return 0;
-    start = object == 0 ? 0 : get32(entry + 4) & ~FILEMARK;
+    start = object == 0 ? 0 : get32(entry + ENTRY) & ENTRY_END;
     end = get32(entry);
-    return (uint64_t)start << 32 | (end - start);
+    return FOUND(start, end - start);
 }
 
 #endif

@@ -30,7 +30,7 @@ static size_t number(const char *digits)
 /* Lays one entry and what it holds; both stay inside the image, and may meet there. */
 static void lay_object(struct laid *laid, size_t data, uint32_t kind)
 {
-    if (laid->length < TRAILER + 4 * (laid->objects + 1) || data > laid->length - laid->end)
+    if (laid->length < TRAILER + ENTRY * (laid->objects + 1) || data > laid->length - laid->end)
         fail("the image is too short for its objects");
     for (size_t i = 0; i < data; i++)
         laid->image[laid->end + i] = (uint8_t)(i + 1);
@@ -46,7 +46,7 @@ static void lay_word(struct laid *laid, const char *word)
         lay_object(laid, count, 0);
     else if (word[0] == 'f')
         for (size_t i = 0; i < count; i++)
-            lay_object(laid, 0, FILEMARK);
+            lay_object(laid, 0, ENTRY_FILEMARK);
     else
         fail(word);
 }
@@ -56,7 +56,7 @@ static void override(struct laid *laid, const char *word)
     static const struct {
         const char *name;
         enum field field;
-    } fields[] = {{"n=", OBJECTS}, {"flags=", FLAGS}, {"d=", DIRECTORY}, {"l=", LENGTH}};
+    } fields[] = {{"n=", TRAILER_N}, {"flags=", TRAILER_FLAGS}, {"d=", TRAILER_D}, {"l=", TRAILER_L}};
     if (laid->length < TRAILER)
         fail("the image is too short for a trailer");
     for (size_t i = 0; i < sizeof fields / sizeof *fields; i++) {

@@ -4,27 +4,30 @@
 #include "record.h"
 #include "stormtoggle.h"
 
-static const uint8_t fresh_bytes[RECORD] = {[3] = 0x29, [12] = 0x70, [19] = 0x0a};
-static const uint8_t mounted_bytes[RECORD] = {[0] = 1, [1] = 1, [3] = 0x28, [12] = 0x70, [19] = 0x0a};
-static const size_t lengths_of_no_record[] = {0, 1, 12, 29, 31, 64, 256 + RECORD};
+/* The thirty bytes as they must be, byte by byte. */
+static const uint8_t fresh_bytes[RECORD_BYTES] = {[3] = 0x29, [12] = 0x70, [19] = 0x0a};
+static const uint8_t mounted_bytes[RECORD_BYTES] = {[0] = 1, [1] = 1, [3] = 0x28, [12] = 0x70, [19] = 0x0a};
+static const size_t lengths_of_no_record[] = {0, 1, 12, RECORD_BYTES - 1, RECORD_BYTES + 1, 64, 256 + RECORD_BYTES};
 
 /* Well-formed records to start from. */
 static const struct base {
     const char *what;
     struct drive drive;
 } bases[] = {
-    {"fresh", {.attention = 0x29, .sense = EMPTY_SENSE}},
-    {"unloaded, nothing waits", {.attention = 0x00, .sense = {0xf0, 0x00, 0x28, 0x00, 0x00, 0x00, 0x02, 0x0a}}},
-    {"unloaded, 28h waits", {.attention = 0x28, .block_length = 1, .sense = {[17] = 0xff}}},
-    {"unloaded, 29h waits", {.attention = 0x29, .block_length = 512, .sense = {0x70, 0x00, 0x06, [12] = 0x29}}},
-    {"unloaded, block length 65,536", {.block_length = 65536, .sense = EMPTY_SENSE}},
-    {"loaded, 1 partition", {1, 1, 0, 0x00, 2, 512, EMPTY_SENSE}},
-    {"loaded, 2 partitions", {1, 2, 1, 0x28, 0x01020304, 65536, {0x70, 0x00, 0x08, [13] = 0x05}}},
+    {"fresh", {.attention = ATTENTION_FRESH, .sense = EMPTY_SENSE}},
+    {"unloaded, nothing waits",
+     {.attention = ATTENTION_NONE, .sense = {0xf0, 0x00, 0x28, 0x00, 0x00, 0x00, 0x02, 0x0a}}},
+    {"unloaded, 28h waits", {.attention = ATTENTION_MOUNTED, .block_length = 1, .sense = {[17] = 0xff}}},
+    {"unloaded, 29h waits",
+     {.attention = ATTENTION_FRESH, .block_length = 512, .sense = {0x70, 0x00, 0x06, [12] = 0x29}}},
+    {"unloaded, block length 65,536", {.block_length = LARGEST_BLOCK, .sense = EMPTY_SENSE}},
+    {"loaded, 1 partition", {1, 1, 0, ATTENTION_NONE, 2, 512, EMPTY_SENSE}},
+    {"loaded, 2 partitions", {1, 2, 1, ATTENTION_MOUNTED, 0x01020304, LARGEST_BLOCK, {0x70, 0x00, 0x08, [13] = 0x05}}},
 };
 
 /* What may be lent as a partition. The short one is sound but for its length. */
 enum kind { ABSENT, SHORT, UNSOUND, SOUND, KINDS };
-static const uint8_t short_blank[63] = {[58] = 47, [62] = 63}, zeros[SHORTEST];
+static const uint8_t short_blank[SHORTEST - 1] = {[58] = 47, [62] = 63}, zeros[SHORTEST];
 static const struct slice partitions[KINDS] = {
     [ABSENT] = {NULL, 0},
     [SHORT] = {short_blank, sizeof short_blank},
@@ -36,37 +39,37 @@ static const struct slice partitions[KINDS] = {
 
 static void fresh_makes(const uint8_t *before, const char *what)
 {
-    uint8_t *record = lend(before, RECORD);
-    expect_equal(stormtoggle_fresh(record, RECORD), DONE, "fresh, %s", what);
-    expect_bytes(record, fresh_bytes, RECORD, "record after fresh, %s", what);
-    take_back(record, RECORD);
+    uint8_t *record = lend(before, RECORD_BYTES);
+    expect_equal(stormtoggle_fresh(record, RECORD_BYTES), DONE, "fresh, %s", what);
+    expect_bytes(record, fresh_bytes, RECORD_BYTES, "record after fresh, %s", what);
+    take_back(record, RECORD_BYTES);
 }
 
 static void fresh_by_length(void)
 {
-    uint8_t *pages = sealed(zeros, 31);
+    uint8_t *pages = sealed(zeros, RECORD_BYTES + 1);
     for (size_t i = 0; i < COUNT(lengths_of_no_record); i++)
-        refuses_length(stormtoggle_fresh, lengths_of_no_record[i], 4, "fresh");
-    expect_equal(stormtoggle_fresh(NULL, 0), REFUSED(4), "fresh of nothing");
-    expect_in_child(stormtoggle_fresh(pages, 31) == REFUSED(4), "fresh of 31 bytes on read-only pages");
-    expect_in_child(stormtoggle_fresh(pages + 2, 29) == REFUSED(4), "fresh of 29 bytes on read-only pages");
+        refuses_length(stormtoggle_fresh, lengths_of_no_record[i], BY_DRIVE, "fresh");
+    expect_equal(stormtoggle_fresh(NULL, 0), REFUSED(BY_DRIVE), "fresh of nothing");
+    expect_in_child(stormtoggle_fresh(pages, RECORD_BYTES + 1) == REFUSED(BY_DRIVE), "fresh of 31 read-only bytes");
+    expect_in_child(stormtoggle_fresh(pages + 2, RECORD_BYTES - 1) == REFUSED(BY_DRIVE), "fresh of 29 read-only bytes");
 }
 
 /* Fresh asks nothing of the thirty bytes. */
 static void fresh_of_any_bytes(void)
 {
-    uint8_t record[RECORD], *pattern = patterned(RECORD);
+    uint8_t record[RECORD_BYTES], *pattern = patterned(RECORD_BYTES);
     struct drive fresh = fresh_drive();
     fresh_makes(pattern, "ill-formed bytes");
     fresh_makes(zeros, "zeros");
-    memset(record, 0xff, RECORD);
+    memset(record, 0xff, RECORD_BYTES);
     fresh_makes(record, "every bit set");
     for (size_t i = 0; i < COUNT(bases); i++) {
         lay_drive(record, &bases[i].drive);
         fresh_makes(record, bases[i].what);
     }
     lay_drive(record, &fresh);
-    expect_bytes(record, fresh_bytes, RECORD, "the oracle, fresh");
+    expect_bytes(record, fresh_bytes, RECORD_BYTES, "the oracle, fresh");
     free(pattern);
 }
 
@@ -77,7 +80,7 @@ static void mount_in_place(struct slice record, struct slice p0, struct slice p1
 {
     unsigned refusal = mount_refusal(record, p0, p1);
     struct drive drive = mounted_drive(p1.length == 0 ? 1 : 2);
-    uint8_t mounted[RECORD], *lent = lend(record.bytes, record.length);
+    uint8_t mounted[RECORD_BYTES], *lent = lend(record.bytes, record.length);
     uint64_t answer = stormtoggle_mount(lent, record.length, p0.bytes, p0.length, p1.bytes, p1.length);
     lay_drive(mounted, &drive);
     expect_equal(answer, REFUSED(refusal), "mount, %s", what);
@@ -105,64 +108,62 @@ static void judged(struct slice record, struct slice p0, struct slice p1, unsign
 /* One partition, and two. */
 static void cartridges(const uint8_t *record, const char *what)
 {
-    mount_agrees((struct slice){record, RECORD}, partitions[SOUND], partitions[ABSENT], what);
-    mount_agrees((struct slice){record, RECORD}, partitions[SOUND], partitions[SOUND], what);
+    mount_agrees((struct slice){record, RECORD_BYTES}, partitions[SOUND], partitions[ABSENT], what);
+    mount_agrees((struct slice){record, RECORD_BYTES}, partitions[SOUND], partitions[SOUND], what);
 }
 
 /* Records, each with the number that refuses a mount of E. */
 static const struct row {
     const char *what;
-    uint8_t loaded, partitions, current, attention;
-    uint32_t position, block_length;
+    struct drive drive;
     unsigned refusal;
 } rows[] = {
-    {"unloaded", 0, 0, 0, 0x00, 0, 0, 0},
-    {"unloaded, 28h", 0, 0, 0, 0x28, 0, 0, 0},
-    {"unloaded, 29h", 0, 0, 0, 0x29, 0, 0, 0},
-    {"unloaded, 27h", 0, 0, 0, 0x27, 0, 0, 4},
-    {"unloaded, 2Ah", 0, 0, 0, 0x2a, 0, 0, 4},
-    {"unloaded, block length 65,536", 0, 0, 0, 0x29, 0, 65536, 0},
-    {"unloaded, block length 65,537", 0, 0, 0, 0x29, 0, 65537, 4},
-    {"unloaded, block length with its top bit", 0, 0, 0, 0x29, 0, 0x80000000, 4},
-    {"unloaded, 1 partition", 0, 1, 0, 0x29, 0, 0, 4},
-    {"unloaded, partition 1", 0, 0, 1, 0x29, 0, 0, 4},
-    {"unloaded, at 1", 0, 0, 0, 0x29, 1, 0, 4},
-    {"unloaded, like loaded", 0, 2, 1, 0x28, 3, 512, 4},
-    {"loaded, no partition", 1, 0, 0, 0x28, 0, 0, 4},
-    {"loaded, partition 0 of 1", 1, 1, 0, 0x28, 0, 0, 5},
-    {"loaded, partition 1 of 1", 1, 1, 1, 0x28, 0, 0, 4},
-    {"loaded, partition 0 of 2", 1, 2, 0, 0x28, 0, 0, 5},
-    {"loaded, partition 1 of 2", 1, 2, 1, 0x28, 0, 0, 5},
-    {"loaded, partition 2 of 2", 1, 2, 2, 0x28, 0, 0, 4},
-    {"loaded, partition 0 of 3", 1, 3, 0, 0x28, 0, 0, 4},
-    {"loaded, past every object", 1, 1, 0, 0x28, 0xffffffff, 0, 5},
-    {"loaded, 29h", 1, 1, 0, 0x29, 0, 0, 5},
-    {"loaded, 2Ah", 1, 1, 0, 0x2a, 0, 0, 4},
-    {"loaded, block length 65,536", 1, 1, 0, 0x00, 0, 65536, 5},
-    {"loaded, block length 65,537", 1, 1, 0, 0x00, 0, 65537, 4},
-    {"loaded is 2", 2, 1, 0, 0x28, 0, 0, 4},
-    {"loaded is 2, like unloaded", 2, 0, 0, 0x28, 0, 0, 4},
+    {"unloaded", {0, 0, 0, ATTENTION_NONE, 0, 0, {0}}, 0},
+    {"unloaded, 28h", {0, 0, 0, ATTENTION_MOUNTED, 0, 0, {0}}, 0},
+    {"unloaded, 29h", {0, 0, 0, ATTENTION_FRESH, 0, 0, {0}}, 0},
+    {"unloaded, 27h", {0, 0, 0, 0x27, 0, 0, {0}}, BY_DRIVE},
+    {"unloaded, 2Ah", {0, 0, 0, 0x2a, 0, 0, {0}}, BY_DRIVE},
+    {"unloaded, block length 65,536", {0, 0, 0, ATTENTION_FRESH, 0, LARGEST_BLOCK, {0}}, 0},
+    {"unloaded, block length 65,537", {0, 0, 0, ATTENTION_FRESH, 0, LARGEST_BLOCK + 1, {0}}, BY_DRIVE},
+    {"unloaded, block length with its top bit", {0, 0, 0, ATTENTION_FRESH, 0, 0x80000000, {0}}, BY_DRIVE},
+    {"unloaded, 1 partition", {0, 1, 0, ATTENTION_FRESH, 0, 0, {0}}, BY_DRIVE},
+    {"unloaded, partition 1", {0, 0, 1, ATTENTION_FRESH, 0, 0, {0}}, BY_DRIVE},
+    {"unloaded, at 1", {0, 0, 0, ATTENTION_FRESH, 1, 0, {0}}, BY_DRIVE},
+    {"unloaded, like loaded", {0, 2, 1, ATTENTION_MOUNTED, 3, 512, {0}}, BY_DRIVE},
+    {"loaded, no partition", {1, 0, 0, ATTENTION_MOUNTED, 0, 0, {0}}, BY_DRIVE},
+    {"loaded, partition 0 of 1", {1, 1, 0, ATTENTION_MOUNTED, 0, 0, {0}}, BY_LOADED},
+    {"loaded, partition 1 of 1", {1, 1, 1, ATTENTION_MOUNTED, 0, 0, {0}}, BY_DRIVE},
+    {"loaded, partition 0 of 2", {1, 2, 0, ATTENTION_MOUNTED, 0, 0, {0}}, BY_LOADED},
+    {"loaded, partition 1 of 2", {1, 2, 1, ATTENTION_MOUNTED, 0, 0, {0}}, BY_LOADED},
+    {"loaded, partition 2 of 2", {1, 2, 2, ATTENTION_MOUNTED, 0, 0, {0}}, BY_DRIVE},
+    {"loaded, partition 0 of 3", {1, 3, 0, ATTENTION_MOUNTED, 0, 0, {0}}, BY_DRIVE},
+    {"loaded, past every object", {1, 1, 0, ATTENTION_MOUNTED, 0xffffffff, 0, {0}}, BY_LOADED},
+    {"loaded, 29h", {1, 1, 0, ATTENTION_FRESH, 0, 0, {0}}, BY_LOADED},
+    {"loaded, 2Ah", {1, 1, 0, 0x2a, 0, 0, {0}}, BY_DRIVE},
+    {"loaded, block length 65,536", {1, 1, 0, ATTENTION_NONE, 0, LARGEST_BLOCK, {0}}, BY_LOADED},
+    {"loaded, block length 65,537", {1, 1, 0, ATTENTION_NONE, 0, LARGEST_BLOCK + 1, {0}}, BY_DRIVE},
+    {"loaded is 2", {2, 1, 0, ATTENTION_MOUNTED, 0, 0, {0}}, BY_DRIVE},
+    {"loaded is 2, like unloaded", {2, 0, 0, ATTENTION_MOUNTED, 0, 0, {0}}, BY_DRIVE},
 };
 
 static void records(void)
 {
     for (const struct row *row = rows; row < rows + COUNT(rows); row++) {
-        uint8_t record[RECORD] = {row->loaded, row->partitions, row->current, row->attention};
-        put32(record + 4, row->position);
-        put32(record + 8, row->block_length);
-        memset(record + 12, 0xff, SENSE);
-        judged((struct slice){record, RECORD}, partitions[SOUND], partitions[ABSENT], row->refusal, row->what);
+        uint8_t record[RECORD_BYTES];
+        lay_drive(record, &row->drive);
+        memset(record + STORMTOGGLE_RECORD_SENSE, 0xff, SENSE_BYTES);
+        judged((struct slice){record, RECORD_BYTES}, partitions[SOUND], partitions[ABSENT], row->refusal, row->what);
     }
 }
 
 /* A base record with one byte of it at each of its values. */
 static void every_byte(const struct base *base)
 {
-    uint8_t record[RECORD];
+    uint8_t record[RECORD_BYTES];
     char what[80];
     lay_drive(record, &base->drive);
-    expect(well_formed((struct slice){record, RECORD}), "the oracle, %s", base->what);
-    for (size_t at = 0; at < RECORD; at++) {
+    expect(well_formed((struct slice){record, RECORD_BYTES}), "the oracle, %s", base->what);
+    for (size_t at = 0; at < RECORD_BYTES; at++) {
         uint8_t kept = record[at];
         for (unsigned value = 0; value < 256; value++) {
             record[at] = (uint8_t)value;
@@ -182,35 +183,36 @@ static void every_base(void)
 /* Fresh bytes, cut or followed by zeros. */
 static void record_lengths(void)
 {
-    uint8_t bytes[256 + RECORD] = {0};
-    memcpy(bytes, fresh_bytes, RECORD);
+    uint8_t bytes[256 + RECORD_BYTES] = {0};
+    memcpy(bytes, fresh_bytes, RECORD_BYTES);
     for (size_t i = 0; i < COUNT(lengths_of_no_record); i++)
-        judged((struct slice){bytes, lengths_of_no_record[i]}, partitions[SOUND], partitions[ABSENT], 4,
+        judged((struct slice){bytes, lengths_of_no_record[i]}, partitions[SOUND], partitions[ABSENT], BY_DRIVE,
                "a record that is not 30 bytes");
 }
 
 /* Base records with any sense, one byte in ten drawn anew from values about the lawful ones, and any partitions. */
 static void random_records(void)
 {
-    static const uint8_t drawn[] = {0, 0, 0, 1, 1, 2, 3, 0x27, 0x28, 0x29, 0x2a, 0x80, 0xff};
+    static const uint8_t drawn[] = {0, 0, 0, 1, 1, 2, 3, ATTENTION_MOUNTED - 1, ATTENTION_MOUNTED,
+                                    ATTENTION_FRESH, ATTENTION_FRESH + 1, 0x80, 0xff};
     for (int round = 0; round < 2000; round++) {
         enum kind p0 = random_below(KINDS), p1 = random_below(KINDS);
-        uint8_t record[RECORD];
+        uint8_t record[RECORD_BYTES];
         lay_drive(record, &bases[random_below(COUNT(bases))].drive);
-        for (size_t at = 0; at < RECORD - SENSE; at++)
+        for (size_t at = 0; at < STORMTOGGLE_RECORD_SENSE; at++)
             if (random_below(10) == 0)
                 record[at] = drawn[random_below(COUNT(drawn))];
-        for (size_t at = RECORD - SENSE; at < RECORD; at++)
+        for (size_t at = STORMTOGGLE_RECORD_SENSE; at < RECORD_BYTES; at++)
             record[at] = (uint8_t)random_below(256);
         cartridges(record, "a random record");
-        mount_agrees((struct slice){record, RECORD}, partitions[p0], partitions[p1], "a random record");
+        mount_agrees((struct slice){record, RECORD_BYTES}, partitions[p0], partitions[p1], "a random record");
     }
 }
 
 /* An image as partition 0, alone and before a sound one, and as partition 1. */
 static void mounts_of(struct slice image, const char *what)
 {
-    struct slice record = {fresh_bytes, RECORD};
+    struct slice record = {fresh_bytes, RECORD_BYTES};
     mount_agrees(record, image, partitions[ABSENT], what);
     mount_agrees(record, image, partitions[SOUND], what);
     mount_agrees(record, partitions[SOUND], image, what);
@@ -252,14 +254,15 @@ static void read_only(uint8_t *record, size_t length, enum kind kind0, enum kind
 /* A record that is refused by this number, or by none, with each pair of partitions. */
 static void pairs(size_t length, struct drive drive, unsigned refusal, const char *what)
 {
+    enum { U = BY_UNSOUND, L = BY_LENGTH };
     static const unsigned order_of_7_and_6[KINDS][KINDS] = {
         /* partition 1: absent, short, unsound, sound */
-        [ABSENT] = {7, 7, 7, 7},
-        [SHORT] = {7, 7, 7, 7},
-        [UNSOUND] = {6, 7, 6, 6},
-        [SOUND] = {0, 7, 6, 0},
+        [ABSENT] = {L, L, L, L},
+        [SHORT] = {L, L, L, L},
+        [UNSOUND] = {U, L, U, U},
+        [SOUND] = {0, L, U, 0},
     };
-    uint8_t record[RECORD];
+    uint8_t record[RECORD_BYTES];
     lay_drive(record, &drive);
     for (int p0 = 0; p0 < KINDS; p0++)
         for (int p1 = 0; p1 < KINDS; p1++) {
@@ -271,34 +274,36 @@ static void pairs(size_t length, struct drive drive, unsigned refusal, const cha
 
 static void order(void)
 {
-    pairs(RECORD, fresh_drive(), 0, "a fresh record");
-    pairs(0, fresh_drive(), 4, "no record");
-    pairs(29, fresh_drive(), 4, "a fresh record but for its last byte");
-    pairs(RECORD, (struct drive){.attention = 0x2a}, 4, "an ill-formed record");
-    pairs(RECORD, (struct drive){.loaded = 1, .partitions = 1}, 5, "a loaded record");
-    pairs(RECORD, (struct drive){.loaded = 1, .partitions = 2, .block_length = 65537}, 4, "loaded and ill-formed");
+    pairs(RECORD_BYTES, fresh_drive(), 0, "a fresh record");
+    pairs(0, fresh_drive(), BY_DRIVE, "no record");
+    pairs(RECORD_BYTES - 1, fresh_drive(), BY_DRIVE, "a fresh record but for its last byte");
+    pairs(RECORD_BYTES, (struct drive){.attention = ATTENTION_FRESH + 1}, BY_DRIVE, "an ill-formed record");
+    pairs(RECORD_BYTES, (struct drive){.loaded = 1, .partitions = 1}, BY_LOADED, "a loaded record");
+    pairs(RECORD_BYTES, (struct drive){.loaded = 1, .partitions = 2, .block_length = LARGEST_BLOCK + 1}, BY_DRIVE,
+          "loaded and ill-formed");
 }
 
 /* One record through its states. */
 static void one_record(void)
 {
-    uint8_t two[RECORD], *record = lend(zeros, RECORD), *e = lend(example_e, 64), *second = lend(example_e, 64);
-    memcpy(two, mounted_bytes, RECORD);
-    two[1] = 2;
-    expect_equal(stormtoggle_fresh(record, RECORD), DONE, "fresh");
-    expect_equal(stormtoggle_mount(record, RECORD, NULL, 0, NULL, 0), REFUSED(7), "mount of nothing");
-    expect_bytes(record, fresh_bytes, RECORD, "a fresh record");
-    expect_equal(stormtoggle_mount(record, RECORD, e, 64, NULL, 0), DONE, "mount of E");
-    expect_bytes(record, mounted_bytes, RECORD, "a mounted record");
-    expect_equal(stormtoggle_mount(record, RECORD, e, 64, NULL, 0), REFUSED(5), "mount of E again");
-    expect_bytes(record, mounted_bytes, RECORD, "a mounted record after a refusal");
-    expect_equal(stormtoggle_fresh(record, RECORD), DONE, "fresh while loaded");
-    expect_bytes(record, fresh_bytes, RECORD, "a fresh record again");
-    expect_equal(stormtoggle_mount(record, RECORD, e, 64, second, 64), DONE, "mount of two partitions");
-    expect_bytes(record, two, RECORD, "a record with two partitions");
-    take_back(second, 64);
-    take_back(e, 64);
-    take_back(record, RECORD);
+    uint8_t two[RECORD_BYTES], *record = lend(zeros, RECORD_BYTES);
+    uint8_t *e = lend(example_e, E_BYTES), *second = lend(example_e, E_BYTES);
+    memcpy(two, mounted_bytes, RECORD_BYTES);
+    two[STORMTOGGLE_RECORD_PARTITIONS] = 2;
+    expect_equal(stormtoggle_fresh(record, RECORD_BYTES), DONE, "fresh");
+    expect_equal(stormtoggle_mount(record, RECORD_BYTES, NULL, 0, NULL, 0), REFUSED(BY_LENGTH), "mount of nothing");
+    expect_bytes(record, fresh_bytes, RECORD_BYTES, "a fresh record");
+    expect_equal(stormtoggle_mount(record, RECORD_BYTES, e, E_BYTES, NULL, 0), DONE, "mount of E");
+    expect_bytes(record, mounted_bytes, RECORD_BYTES, "a mounted record");
+    expect_equal(stormtoggle_mount(record, RECORD_BYTES, e, E_BYTES, NULL, 0), REFUSED(BY_LOADED), "mount of E again");
+    expect_bytes(record, mounted_bytes, RECORD_BYTES, "a mounted record after a refusal");
+    expect_equal(stormtoggle_fresh(record, RECORD_BYTES), DONE, "fresh while loaded");
+    expect_bytes(record, fresh_bytes, RECORD_BYTES, "a fresh record again");
+    expect_equal(stormtoggle_mount(record, RECORD_BYTES, e, E_BYTES, second, E_BYTES), DONE, "mount of two partitions");
+    expect_bytes(record, two, RECORD_BYTES, "a record with two partitions");
+    take_back(second, E_BYTES);
+    take_back(e, E_BYTES);
+    take_back(record, RECORD_BYTES);
 }
 
 /* ---- lengths that no copy could have */
@@ -306,16 +311,16 @@ static void one_record(void)
 /* A fresh record by the low 32 bits of its length. */
 static void record_too_long(void)
 {
-    size_t length = (size_t)BEYOND_32_BITS + RECORD;
+    size_t length = (size_t)BEYOND_32_BITS + RECORD_BYTES;
     uint8_t *record = sparse(length);
     if (record == NULL)
         return;
-    memcpy(record, fresh_bytes, RECORD);
-    expect_equal(stormtoggle_mount(record, length, NULL, 0, NULL, 0), REFUSED(4), "record of %zu bytes", length);
-    expect_bytes(record, fresh_bytes, RECORD, "first bytes of %zu after a refused mount", length);
-    memcpy(record, mounted_bytes, RECORD);
-    expect_equal(stormtoggle_fresh(record, length), REFUSED(4), "fresh of %zu bytes", length);
-    expect_bytes(record, mounted_bytes, RECORD, "first bytes of %zu after a refused fresh", length);
+    memcpy(record, fresh_bytes, RECORD_BYTES);
+    expect_equal(stormtoggle_mount(record, length, NULL, 0, NULL, 0), REFUSED(BY_DRIVE), "record of %zu bytes", length);
+    expect_bytes(record, fresh_bytes, RECORD_BYTES, "first bytes of %zu after a refused mount", length);
+    memcpy(record, mounted_bytes, RECORD_BYTES);
+    expect_equal(stormtoggle_fresh(record, length), REFUSED(BY_DRIVE), "fresh of %zu bytes", length);
+    expect_bytes(record, mounted_bytes, RECORD_BYTES, "first bytes of %zu after a refused fresh", length);
     munmap(record, length);
 }
 
@@ -323,14 +328,14 @@ static void record_too_long(void)
 static void partition_length(size_t length, int in_range)
 {
     uint8_t *image = sparse(length), want[TRAILER];
-    struct slice record = {fresh_bytes, RECORD}, blank = {image, length};
+    struct slice record = {fresh_bytes, RECORD_BYTES}, blank = {image, length};
     char what[80];
     if (image == NULL)
         return;
     lay_trailer(image, length, 0, 0);
     memcpy(want, image + length - TRAILER, TRAILER);
     snprintf(what, sizeof what, "a blank of %zu bytes", length);
-    expect_equal(mount_refusal(record, blank, partitions[ABSENT]), in_range ? 0 : 7, "the oracle, %s", what);
+    expect_equal(mount_refusal(record, blank, partitions[ABSENT]), in_range ? 0 : BY_LENGTH, "the oracle, %s", what);
     for (int kind = 0; kind < KINDS; kind++) {
         size_t size = partitions[kind].length;
         uint8_t *other = lend(partitions[kind].bytes, size);
@@ -345,29 +350,34 @@ static void partition_length(size_t length, int in_range)
 
 static void partition_lengths(void)
 {
-    partition_length(16, 0);
-    partition_length(63, 0);
-    partition_length(64, 1);
+    partition_length(TRAILER, 0);
+    partition_length(SHORTEST - 1, 0);
+    partition_length(SHORTEST, 1);
     partition_length(LONGEST, 1);
     partition_length((size_t)LONGEST + 1, 0);
-    partition_length((size_t)BEYOND_32_BITS + 64, 0);
+    partition_length((size_t)BEYOND_32_BITS + SHORTEST, 0);
 }
 
-/* The header's places, on a record whose fields all differ. */
+/* The header's places, on a record whose bytes are the numbers 1 to 30, so that each tells where it stands. */
 static void fields(void)
 {
-    static const struct drive drive = {1, 2, 3, 4, 0x05060708, 0x090a0b0c, {13, [17] = 30}};
-    uint8_t record[RECORD];
-    lay_drive(record, &drive);
-    expect_equal(STORMTOGGLE_RECORD_LENGTH, RECORD, "a record's length");
-    expect_equal(record[STORMTOGGLE_RECORD_LOADED], drive.loaded, "loaded");
-    expect_equal(record[STORMTOGGLE_RECORD_PARTITIONS], drive.partitions, "partitions");
-    expect_equal(record[STORMTOGGLE_RECORD_CURRENT], drive.current, "current partition");
-    expect_equal(record[STORMTOGGLE_RECORD_ATTENTION], drive.attention, "attention");
-    expect_equal(get32(record + STORMTOGGLE_RECORD_POSITION), drive.position, "position");
-    expect_equal(get32(record + STORMTOGGLE_RECORD_BLOCK_LENGTH), drive.block_length, "block length");
-    expect_equal(STORMTOGGLE_SENSE_LENGTH, SENSE, "the kept sense's length");
-    expect_bytes(record + STORMTOGGLE_RECORD_SENSE, drive.sense, SENSE, "kept sense");
+    static const uint8_t record[] = {1,  2,  3,  4,  5,  6,  7,  8,  9,  10, 11, 12, 13, 14, 15,
+                                     16, 17, 18, 19, 20, 21, 22, 23, 24, 25, 26, 27, 28, 29, 30};
+    const uint8_t *sense = record + STORMTOGGLE_RECORD_SENSE;
+    expect_equal(STORMTOGGLE_RECORD_LENGTH, sizeof record, "a record's length");
+    expect_equal(record[STORMTOGGLE_RECORD_LOADED], 1, "loaded");
+    expect_equal(record[STORMTOGGLE_RECORD_PARTITIONS], 2, "partitions");
+    expect_equal(record[STORMTOGGLE_RECORD_CURRENT], 3, "current partition");
+    expect_equal(record[STORMTOGGLE_RECORD_ATTENTION], 4, "attention");
+    expect_equal(get32(record + STORMTOGGLE_RECORD_POSITION), 0x05060708, "position");
+    expect_equal(get32(record + STORMTOGGLE_RECORD_BLOCK_LENGTH), 0x090a0b0c, "block length");
+    expect_equal(STORMTOGGLE_SENSE_LENGTH, 18, "the kept sense's length");
+    expect_equal(sense[STORMTOGGLE_SENSE_FIRST], 13, "the kept sense's first byte");
+    expect_equal(sense[STORMTOGGLE_SENSE_KEY], 15, "flags and key");
+    expect_equal(get32(sense + STORMTOGGLE_SENSE_INFORMATION), 0x10111213, "information");
+    expect_equal(sense[STORMTOGGLE_SENSE_REST], 20, "how many bytes follow");
+    expect_equal(sense[STORMTOGGLE_SENSE_ASC], 25, "ASC");
+    expect_equal(sense[STORMTOGGLE_SENSE_ASCQ], 26, "ASCQ");
 }
 
 int main(void)

@@ -4,14 +4,11 @@
 
 #include "image.h"
 
-enum { RECORD = 30, SENSE = 18 };
-#define EMPTY_SENSE {[0] = 0x70, [7] = 0x0a}
-
 /* The record's fields, in their order. */
 struct drive {
     uint8_t loaded, partitions, current, attention;
     uint32_t position, block_length;
-    uint8_t sense[SENSE];
+    uint8_t sense[SENSE_BYTES];
 };
 
 /* Bytes as a call lends them. */
@@ -22,30 +19,44 @@ struct slice {
 
 static inline void lay_drive(uint8_t *record, const struct drive *drive)
 {
-    record[0] = drive->loaded;
-    record[1] = drive->partitions;
-    record[2] = drive->current;
-    record[3] = drive->attention;
-    put32(record + 4, drive->position);
-    put32(record + 8, drive->block_length);
-    memcpy(record + 12, drive->sense, SENSE);
+    record[STORMTOGGLE_RECORD_LOADED] = drive->loaded;
+    record[STORMTOGGLE_RECORD_PARTITIONS] = drive->partitions;
+    record[STORMTOGGLE_RECORD_CURRENT] = drive->current;
+    record[STORMTOGGLE_RECORD_ATTENTION] = drive->attention;
+    put32(record + STORMTOGGLE_RECORD_POSITION, drive->position);
+    put32(record + STORMTOGGLE_RECORD_BLOCK_LENGTH, drive->block_length);
+    memcpy(record + STORMTOGGLE_RECORD_SENSE, drive->sense, SENSE_BYTES);
 }
 
 static inline struct drive drive_of(const uint8_t *record)
 {
-    struct drive drive = {record[0], record[1], record[2], record[3], get32(record + 4), get32(record + 8), {0}};
-    memcpy(drive.sense, record + 12, SENSE);
+    struct drive drive = {
+        .loaded = record[STORMTOGGLE_RECORD_LOADED],
+        .partitions = record[STORMTOGGLE_RECORD_PARTITIONS],
+        .current = record[STORMTOGGLE_RECORD_CURRENT],
+        .attention = record[STORMTOGGLE_RECORD_ATTENTION],
+        .position = get32(record + STORMTOGGLE_RECORD_POSITION),
+        .block_length = get32(record + STORMTOGGLE_RECORD_BLOCK_LENGTH),
+    };
+    memcpy(drive.sense, record + STORMTOGGLE_RECORD_SENSE, SENSE_BYTES);
     return drive;
+}
+
+/* What a sense tells, as one of the numbers TOLD_.. */
+static inline uint32_t told_by(const uint8_t *sense)
+{
+    return TOLD((uint32_t)sense[STORMTOGGLE_SENSE_KEY], sense[STORMTOGGLE_SENSE_ASC], sense[STORMTOGGLE_SENSE_ASCQ]);
 }
 
 static inline struct drive fresh_drive(void)
 {
-    return (struct drive){.attention = 0x29, .sense = EMPTY_SENSE};
+    return (struct drive){.attention = ATTENTION_FRESH, .sense = EMPTY_SENSE};
 }
 
 static inline struct drive mounted_drive(uint8_t partitions)
 {
-    return (struct drive){.loaded = 1, .partitions = partitions, .attention = 0x28, .sense = EMPTY_SENSE};
+    return (struct drive){
+        .loaded = 1, .partitions = partitions, .attention = ATTENTION_MOUNTED, .sense = EMPTY_SENSE};
 }
 
 /* Whether loaded, partitions, current and position agree. How far the position may go, the cartridge says. */
@@ -62,10 +73,10 @@ static inline int places_agree(const struct drive *drive)
 static inline int well_formed(struct slice record)
 {
     struct drive drive;
-    if (record.length != RECORD)
+    if (record.length != RECORD_BYTES)
         return 0;
     drive = drive_of(record.bytes);
-    if (drive.attention != 0x00 && drive.attention != 0x28 && drive.attention != 0x29)
+    if (drive.attention != ATTENTION_NONE && drive.attention != ATTENTION_MOUNTED && drive.attention != ATTENTION_FRESH)
         return 0;
     return drive.block_length <= LARGEST_BLOCK && places_agree(&drive);
 }
@@ -75,13 +86,13 @@ static inline unsigned mount_refusal(struct slice record, struct slice p0, struc
 {
     int absent = p1.length == 0;
     if (!well_formed(record))
-        return 4;
+        return BY_DRIVE;
     if (drive_of(record.bytes).loaded)
-        return 5;
+        return BY_LOADED;
     if (!length_in_range(p0.length) || (!absent && !length_in_range(p1.length)))
-        return 7;
+        return BY_LENGTH;
     if (!sound(p0.bytes, p0.length) || (!absent && !sound(p1.bytes, p1.length)))
-        return 6;
+        return BY_UNSOUND;
     return 0;
 }
 

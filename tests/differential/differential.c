@@ -11,11 +11,11 @@ static size_t likely_image_length(void)
 {
     uint32_t kind = draw(200);
     if (kind < 40)
-        return 64 + 16 * draw(8);
+        return SHORTEST + ZONE_SHARE * draw(8);
     if (kind < 80)
-        return 64 + draw(20);
+        return SHORTEST + draw(20);
     if (kind < 120)
-        return 64 + draw(100);
+        return SHORTEST + draw(100);
     if (kind < 165)
         return 128 + draw(500);
     if (kind < 190)
@@ -57,14 +57,14 @@ static void lay_image(enum slice slice, size_t objects, uint32_t filemarks, uint
     for (; count < objects; count++) {
         int is_filemark = draw(100) < filemarks;
         size_t size = is_filemark ? 0 : 1 + draw(block_most);
-        if (end + size + 4 * (count + 1) + 16 > length)
+        if (end + size + ENTRY * (count + 1) + TRAILER > length)
             break;
         end += size;
-        put32(image + length - 16 - 4 * (count + 1), (uint32_t)end | (is_filemark ? 0x80000000u : 0));
+        put32(image + entry_at(length, count), (uint32_t)end | (is_filemark ? ENTRY_FILEMARK : 0));
     }
     lay_count(image, length, count);
-    put32(image + length - 12, one_in(4));
-    put32(image + length - 4, (uint32_t)length);
+    put32(image + length - TRAILER_FLAGS, one_in(4) ? FLAG_PROTECTED : 0);
+    put32(image + length - TRAILER_L, (uint32_t)length);
     lay(slice, 0, image, length);
 }
 
@@ -72,23 +72,26 @@ static size_t objects_of(enum slice slice)
 {
     if (twins[slice].length == 0)
         return 0;
-    return get32(bytes_of(slice, MODEL) + twins[slice].length - 16);
+    return get32(bytes_of(slice, MODEL) + twins[slice].length - TRAILER_N);
 }
 
 /* A well-formed record of a cartridge that is already laid, with any kept sense. */
 static void lay_record(int loaded)
 {
-    static const uint8_t attentions[] = {0x00, 0x00, 0x00, 0x00, 0x00, 0x00, 0x28, 0x29};
-    static const uint32_t lengths[] = {0, 0, 1, 2, 3, 4, 65535, 65536};
+    static const uint8_t attentions[] = {ATTENTION_NONE, ATTENTION_NONE, ATTENTION_NONE, ATTENTION_NONE,
+                                         ATTENTION_NONE, ATTENTION_NONE, ATTENTION_MOUNTED, ATTENTION_FRESH};
+    static const uint32_t lengths[] = {0, 0, 1, 2, 3, 4, LARGEST_BLOCK - 1, LARGEST_BLOCK};
     uint8_t record[RECORD_BYTES] = {0};
-    memcpy(record + 12, noise + draw(1000), SENSE_BYTES);
-    record[3] = attentions[draw(COUNT(attentions))];
-    put32(record + 8, lengths[draw(COUNT(lengths))]);
+    memcpy(record + STORMTOGGLE_RECORD_SENSE, noise + draw(1000), SENSE_BYTES);
+    record[STORMTOGGLE_RECORD_ATTENTION] = attentions[draw(COUNT(attentions))];
+    put32(record + STORMTOGGLE_RECORD_BLOCK_LENGTH, lengths[draw(COUNT(lengths))]);
     if (loaded) {
-        record[0] = 1;
-        record[1] = (twins[P1].length == 0) == !one_in(12) ? 1 : 2; /* at times not the number lent */
-        record[2] = (uint8_t)draw(record[1]);
-        put32(record + 4, draw(objects_of(record[2] == 0 ? P0 : P1) + 1));
+        uint32_t partitions = (twins[P1].length == 0) == !one_in(12) ? 1 : 2; /* at times not the number lent */
+        uint32_t current = draw(partitions);
+        record[STORMTOGGLE_RECORD_LOADED] = 1;
+        record[STORMTOGGLE_RECORD_PARTITIONS] = (uint8_t)partitions;
+        record[STORMTOGGLE_RECORD_CURRENT] = (uint8_t)current;
+        put32(record + STORMTOGGLE_RECORD_POSITION, draw(objects_of(current == 0 ? P0 : P1) + 1));
     }
     place(RECORD, RECORD_BYTES);
     lay(RECORD, 0, record, RECORD_BYTES);
@@ -100,8 +103,8 @@ static struct {
 
 static void lay_state(void)
 {
-    place(P0, 64 + draw(100));
-    place(P1, one_in(2) ? 64 + draw(100) : 0);
+    place(P0, SHORTEST + draw(100));
+    place(P1, one_in(2) ? SHORTEST + draw(100) : 0);
     lay_image(P0, draw(7), 40, 9);
     if (twins[P1].length > 0)
         lay_image(P1, draw(7), 40, 9);
@@ -150,7 +153,7 @@ static void run_bytes_off(void)
         run_with_byte_off(RECORD, at);
     for (enum slice slice = P0; slice <= P1; slice++) {
         size_t length = twins[slice].length;
-        for (size_t back = 1; length > 0 && back <= 16 + 4 * objects_of(slice); back++)
+        for (size_t back = 1; length > 0 && back <= TRAILER + ENTRY * objects_of(slice); back++)
             run_with_byte_off(slice, length - back);
     }
 }
@@ -216,14 +219,14 @@ static void run_many_objects(void)
 {
     size_t counts[] = {65530 + draw(12), 70000 + draw(20000), 100001 + draw(20000)};
     size_t count = counts[draw(COUNT(counts))], spare = one_in(2) ? draw(60) : draw(30000);
-    place(P0, one_in(2) ? 0 : 64 + draw(100));
-    place(P1, 16 + 4 * count + spare);
+    place(P0, one_in(2) ? 0 : SHORTEST + draw(100));
+    place(P1, TRAILER + ENTRY * count + spare);
     lay_image(P1, count, 100, 1);
     if (twins[P0].length > 0) {
         lay_image(P0, 3, 50, 9);
     } else {
         /* The one partition that there is. */
-        place(P0, 16 + 4 * count + spare);
+        place(P0, TRAILER + ENTRY * count + spare);
         lay_image(P0, count, one_in(2) ? 100 : 99, 3);
         place(P1, 0);
     }
@@ -258,13 +261,13 @@ static void run_wide(void)
         wide_received = wide_twin(PROT_READ | PROT_WRITE);
     }
     for (int calls = 0; calls < 12; calls++) {
-        uint32_t block_length = one_in(2) ? 65536 : 257 + draw(2000);
+        uint32_t block_length = one_in(2) ? LARGEST_BLOCK : 257 + draw(2000);
         uint64_t count = BEYOND_32_BITS / block_length + draw(3), bytes = count * block_length;
-        uint8_t record[RECORD_BYTES] = {[0] = 1, [1] = 1};
+        uint8_t record[RECORD_BYTES] = {[STORMTOGGLE_RECORD_LOADED] = 1, [STORMTOGGLE_RECORD_PARTITIONS] = 1};
         place(P0, one_in(2) ? 3000 + draw(3000) : 140000 + draw(70000));
         lay_image(P0, draw(4), 10, 1);
         place(P1, 0);
-        put32(record + 8, block_length);
+        put32(record + STORMTOGGLE_RECORD_BLOCK_LENGTH, block_length);
         place(RECORD, RECORD_BYTES);
         lay(RECORD, 0, record, RECORD_BYTES);
         look();
@@ -272,12 +275,12 @@ static void run_wide(void)
         twins[RECEIVED] = wide_received;
         twins[SENT].length = twins[RECEIVED].length = (size_t)bytes - one_in(4);
         for (int i = 0; i < 6; i++) {
-            set_block(i == 0 ? 0x0a : i == 1 ? 0x01 : one_in(2) ? 0x08 : 0x0a);
-            block[1] = block[0] != 0x01;
-            if (block[1])
+            set_block(i == 0 ? WRITE : i == 1 ? REWIND : one_in(2) ? READ : WRITE);
+            block[1] = block[0] != REWIND ? FIXED : 0;
+            if (block[0] != REWIND)
                 set_count(count);
-            lend_block(6);
-            reached.wide_done += (call_command() >> 32 & 7) == 0 && block[0] != 0x01;
+            lend_block(BYTES_6);
+            reached.wide_done += STORMTOGGLE_REFUSAL(call_command()) == 0 && block[0] != REWIND;
         }
         twins[SENT] = sent;
         twins[RECEIVED] = received;

@@ -1,4 +1,5 @@
-/* model.h: document 01 in plain C, written from it alone: images as objects, the record, the house services. */
+/* model.h: document 01 in plain C, written from it alone: images as objects, the record, the house services. Its
+ * numbers are those of numbers.h, as a number of 01 is one for all; its rules are its own, and no other test's. */
 #ifndef MODEL_H
 #define MODEL_H
 
@@ -8,8 +9,6 @@
 #ifndef FAULT
 #define FAULT 0
 #endif
-
-enum { RECORD_BYTES = 30, SENSE_BYTES = 18, BLOCK_MOST = 65536, IMAGE_LEAST = 64, IMAGE_MOST = 1073741824 };
 
 /* ---- an image, decoded */
 
@@ -38,13 +37,13 @@ static inline void make_room_for(struct tape *tape, uint64_t objects)
 
 static inline int length_is_lawful(uint64_t length)
 {
-    return length >= IMAGE_LEAST && length <= IMAGE_MOST;
+    return length >= SHORTEST && length <= LONGEST;
 }
 
 /* How far from the front the entry of an object lies. */
 static inline uint64_t entry_at(uint64_t length, uint64_t object)
 {
-    return length - 16 - 4 * (object + 1);
+    return length - TRAILER - ENTRY * (object + 1);
 }
 
 /* Whether the image is sound; its objects are known only then. */
@@ -57,19 +56,19 @@ static inline int decode(struct tape *tape, const uint8_t *image, uint64_t lengt
     tape->is_protected = 0;
     if (!length_is_lawful(length))
         return 0;
-    count = get32(image + length - 16);
-    flags = get32(image + length - 12);
-    directory = get32(image + length - 8);
-    own_length = get32(image + length - 4);
+    count = get32(image + length - TRAILER_N);
+    flags = get32(image + length - TRAILER_FLAGS);
+    directory = get32(image + length - TRAILER_D);
+    own_length = get32(image + length - TRAILER_L);
     /* In 64 bits, so that 4N cannot wrap. */
-    if (own_length != length || flags > 1 || directory + 4 * count + 16 != length)
+    if (own_length != length || flags > FLAG_PROTECTED || directory + ENTRY * count + TRAILER != length)
         return 0;
     make_room_for(tape, count);
     for (uint64_t i = 0; i < count; i++) {
         uint32_t entry = get32(image + entry_at(length, i));
-        struct object object = {end, entry & 0x7fffffff, entry >> 31 != 0};
+        struct object object = {end, entry & ENTRY_END, (entry & ENTRY_FILEMARK) != 0};
         int64_t size = (int64_t)object.end - (int64_t)object.start;
-        if (object.is_filemark ? size != 0 : size < 1 || size > BLOCK_MOST)
+        if (object.is_filemark ? size != 0 : size < 1 || size > LARGEST_BLOCK)
             return 0;
         tape->objects[i] = object;
         end = object.end;
@@ -77,7 +76,7 @@ static inline int decode(struct tape *tape, const uint8_t *image, uint64_t lengt
     if (end > directory)
         return 0;
     tape->count = count;
-    tape->is_protected = flags == 1;
+    tape->is_protected = flags == FLAG_PROTECTED;
     return 1;
 }
 
@@ -89,51 +88,56 @@ static inline uint64_t end_before(const struct tape *tape, uint64_t n)
 
 static inline uint64_t room_at(const struct tape *tape, uint64_t n)
 {
-    return tape->length - 16 - (4 * n + end_before(tape, n));
+    return tape->length - TRAILER - (ENTRY * n + end_before(tape, n));
 }
 
 static inline int in_zone(const struct tape *tape, uint64_t n)
 {
     if (FAULT == 4)
-        return room_at(tape, n) * 16 <= tape->length - 16;
-    return room_at(tape, n) * 16 < tape->length - 16;
+        return room_at(tape, n) * ZONE_SHARE <= tape->length - TRAILER;
+    return room_at(tape, n) * ZONE_SHARE < tape->length - TRAILER;
 }
 
 /* Lays N, and D, which follows from it. */
 static inline void lay_count(uint8_t *image, uint64_t length, uint64_t count)
 {
-    put32(image + length - 16, (uint32_t)count);
-    put32(image + length - 8, (uint32_t)(length - 16 - 4 * count));
+    put32(image + length - TRAILER_N, (uint32_t)count);
+    put32(image + length - TRAILER_D, (uint32_t)(length - TRAILER - ENTRY * count));
 }
 
 /* ---- answers */
 
 static inline uint64_t refused(unsigned number)
 {
-    return (uint64_t)number << 32;
+    return (uint64_t)number << ANSWER_REFUSAL;
 }
 
 static inline uint64_t answered(int check_condition, uint64_t carried)
 {
-    return carried | (uint64_t)(check_condition != 0) << 35;
+    return carried | (uint64_t)(check_condition != 0) << ANSWER_STATUS;
 }
 
 /* ---- the record */
 
-static const uint8_t nothing_told[SENSE_BYTES] = {[0] = 0x70, [7] = 0x0a};
+static const uint8_t nothing_told[SENSE_BYTES] = EMPTY_SENSE;
 
 static inline int record_is_well_formed(const uint8_t *record, uint64_t length)
 {
+    uint8_t loaded, partitions, current, attention;
     if (length != RECORD_BYTES)
         return 0;
-    if (record[3] != 0x00 && record[3] != 0x28 && record[3] != 0x29)
+    loaded = record[STORMTOGGLE_RECORD_LOADED];
+    partitions = record[STORMTOGGLE_RECORD_PARTITIONS];
+    current = record[STORMTOGGLE_RECORD_CURRENT];
+    attention = record[STORMTOGGLE_RECORD_ATTENTION];
+    if (attention != ATTENTION_NONE && attention != ATTENTION_MOUNTED && attention != ATTENTION_FRESH)
         return 0;
-    if (get32(record + 8) > BLOCK_MOST)
+    if (get32(record + STORMTOGGLE_RECORD_BLOCK_LENGTH) > LARGEST_BLOCK)
         return 0;
-    if (record[0] == 0)
-        return record[1] == 0 && record[2] == 0 && get32(record + 4) == 0;
+    if (loaded == 0)
+        return partitions == 0 && current == 0 && get32(record + STORMTOGGLE_RECORD_POSITION) == 0;
     /* Whether the position is at most N is for the command to see, which has the partitions. */
-    return record[0] == 1 && (record[1] == 1 || record[1] == 2) && record[2] < record[1];
+    return loaded == 1 && (partitions == 1 || partitions == 2) && current < partitions;
 }
 
 /* ---- the house services, over the library's own slices */
@@ -141,32 +145,34 @@ static inline int record_is_well_formed(const uint8_t *record, uint64_t length)
 static inline uint64_t model_fresh(uint8_t *record, size_t length)
 {
     if (length != RECORD_BYTES)
-        return refused(4);
+        return refused(BY_DRIVE);
     memset(record, 0, RECORD_BYTES);
-    record[3] = 0x29;
-    memcpy(record + 12, nothing_told, SENSE_BYTES);
+    record[STORMTOGGLE_RECORD_ATTENTION] = ATTENTION_FRESH;
+    memcpy(record + STORMTOGGLE_RECORD_SENSE, nothing_told, SENSE_BYTES);
     return answered(0, 0);
 }
 
 static inline uint64_t model_blank(uint8_t *image, size_t length)
 {
     if (!length_is_lawful(length))
-        return refused(7);
+        return refused(BY_LENGTH);
     lay_count(image, length, 0);
-    put32(image + length - 12, 0);
-    put32(image + length - 4, (uint32_t)length);
+    put32(image + length - TRAILER_FLAGS, 0);
+    put32(image + length - TRAILER_L, (uint32_t)length);
     return answered(0, 0);
 }
 
 static inline uint64_t model_protect(uint8_t *image, size_t length, uint64_t on)
 {
     static struct tape tape;
+    uint8_t *flag;
     if (!length_is_lawful(length))
-        return refused(7);
+        return refused(BY_LENGTH);
     if (!decode(&tape, image, length))
-        return refused(6);
-    /* Flag bit 0 is the lowest of a big-endian word. */
-    image[length - 9] = (uint8_t)((image[length - 9] & 0xfe) | (on != 0));
+        return refused(BY_UNSOUND);
+    /* Flag bit 0 is the lowest of a big-endian word, in its last byte. */
+    flag = image + length - TRAILER_FLAGS + 3;
+    *flag = (uint8_t)((*flag & ~FLAG_PROTECTED) | (on != 0 ? FLAG_PROTECTED : 0));
     return answered(0, 0);
 }
 
@@ -176,18 +182,18 @@ static inline uint64_t model_mount(uint8_t *record, size_t record_length, const 
     static struct tape tape;
     int second_is_absent = p1_length == 0;
     if (!record_is_well_formed(record, record_length))
-        return refused(4);
-    if (record[0] == 1)
-        return refused(5);
+        return refused(BY_DRIVE);
+    if (record[STORMTOGGLE_RECORD_LOADED] == 1)
+        return refused(BY_LOADED);
     if (!length_is_lawful(p0_length) || !(second_is_absent || length_is_lawful(p1_length)))
-        return refused(7);
+        return refused(BY_LENGTH);
     if (!decode(&tape, p0, p0_length) || !(second_is_absent || decode(&tape, p1, p1_length)))
-        return refused(6);
+        return refused(BY_UNSOUND);
     memset(record, 0, RECORD_BYTES);
-    record[0] = 1;
-    record[1] = second_is_absent ? 1 : 2;
-    record[3] = 0x28;
-    memcpy(record + 12, nothing_told, SENSE_BYTES);
+    record[STORMTOGGLE_RECORD_LOADED] = 1;
+    record[STORMTOGGLE_RECORD_PARTITIONS] = second_is_absent ? 1 : 2;
+    record[STORMTOGGLE_RECORD_ATTENTION] = ATTENTION_MOUNTED;
+    memcpy(record + STORMTOGGLE_RECORD_SENSE, nothing_told, SENSE_BYTES);
     return answered(0, 0);
 }
 
@@ -203,7 +209,7 @@ static inline uint64_t model_view(const uint8_t *p0, size_t p0_length, const uin
     block = &tape.objects[object];
     if (block->is_filemark)
         return 0;
-    return (uint64_t)block->start << 32 | (block->end - block->start);
+    return (uint64_t)block->start << VIEW_START | (block->end - block->start);
 }
 
 #endif

@@ -11,12 +11,12 @@ static inline const struct object *next_block(struct session *s, int64_t residue
 {
     const struct tape *tape = &s->tape[s->current];
     if (s->position == tape->count) {
-        tell(s, 0, 0x8, 0x00, 0x05, residue);
+        tell(s, TOLD_END_OF_DATA, residue);
         return NULL;
     }
     s->position++;
     if (tape->objects[s->position - 1].is_filemark) {
-        tell(s, FILEMARK_FLAG, 0x0, 0x00, 0x01, residue);
+        tell(s, TOLD_FILEMARK, residue);
         return NULL;
     }
     return &tape->objects[s->position - 1];
@@ -35,7 +35,7 @@ static inline void read_fixed(struct session *s, int64_t blocks)
         if (block == NULL)
             return;
         if (block->end - block->start != s->block_length) {
-            tell(s, ILI_FLAG, 0x0, 0x00, 0x00, blocks - done - (FAULT == 5));
+            tell(s, TOLD_LENGTH, blocks - done - (FAULT == 5));
             return;
         }
         carry(s, block, s->block_length);
@@ -54,9 +54,9 @@ static inline void read_variable(struct session *s, int64_t request)
     if (size == request)
         return;
     /* SILI hides the length, except overlength with a nonzero block length. */
-    if (s->block[1] & 0x02 && (size < request || s->block_length == 0 || FAULT == 9))
+    if (s->block[1] & SILI && (size < request || s->block_length == 0 || FAULT == 9))
         return;
-    tell(s, ILI_FLAG, 0x0, 0x00, 0x00, difference);
+    tell(s, TOLD_LENGTH, difference);
 }
 
 /* ---- WRITE and WRITE FILEMARKS */
@@ -67,11 +67,11 @@ static inline int put(struct session *s, int is_filemark, const uint8_t *data, u
     struct tape *tape = &s->tape[s->current];
     uint8_t *image = s->image[s->current];
     uint32_t start = (uint32_t)end_before(tape, s->position), end = (uint32_t)(start + bytes);
-    if (room_at(tape, s->position) < 4 + bytes)
+    if (room_at(tape, s->position) < ENTRY + bytes)
         return 0;
     if (bytes > 0)
         memcpy(image + start, data, bytes);
-    put32(image + entry_at(tape->length, s->position), is_filemark ? 0x80000000u | end : end);
+    put32(image + entry_at(tape->length, s->position), is_filemark ? ENTRY_FILEMARK | end : end);
     make_room_for(tape, s->position + 1);
     tape->objects[s->position] = (struct object){start, end, is_filemark};
     tape->count = ++s->position;
@@ -93,9 +93,9 @@ static inline void put_all(struct session *s, uint64_t objects, uint64_t bytes, 
         done++;
     s->carried = done * bytes;
     if (done < objects)
-        tell(s, EOM_FLAG, 0xd, 0x00, 0x02, (int64_t)(objects - done) * residue_of_one - (FAULT == 1 && is_filemark));
+        tell(s, TOLD_OVERFLOW, (int64_t)(objects - done) * residue_of_one - (FAULT == 1 && is_filemark));
     else if (in_zone(&s->tape[s->current], s->position))
-        tell(s, EOM_FLAG, 0x0, 0x00, 0x02, 0);
+        tell(s, TOLD_ZONE, 0);
 }
 
 static inline void write_blocks(struct session *s)
@@ -114,7 +114,7 @@ static inline void space(struct session *s)
     const struct tape *tape = &s->tape[s->current];
     int64_t count = signed_count_of(s->block), moved = 0;
     int code = s->block[1];
-    if (code == 3) {
+    if (code == TO_END_OF_DATA) {
         s->position = tape->count;
         return;
     }
@@ -122,19 +122,19 @@ static inline void space(struct session *s)
         int step = count > 0 ? 1 : -1;
         const struct object *crossed;
         if (step > 0 && s->position == tape->count) {
-            tell(s, 0, 0x8, 0x00, 0x05, count - moved);
+            tell(s, TOLD_END_OF_DATA, count - moved);
             return;
         }
         if (step < 0 && s->position == 0) {
-            tell(s, EOM_FLAG, 0x0, 0x00, 0x04, count - moved);
+            tell(s, TOLD_BEGINNING, count - moved);
             return;
         }
         crossed = &tape->objects[step > 0 ? s->position : s->position - 1];
         s->position = step > 0 ? s->position + 1 : s->position - 1;
-        if (crossed->is_filemark == (code == 1)) {
+        if (crossed->is_filemark == (code == FILEMARKS)) {
             moved += step;
-        } else if (code == 0) {
-            tell(s, FILEMARK_FLAG, 0x0, 0x00, 0x01, count - moved);
+        } else if (code == BLOCKS) {
+            tell(s, TOLD_FILEMARK, count - moved);
             return;
         }
     }
@@ -142,27 +142,27 @@ static inline void space(struct session *s)
 
 static inline void locate(struct session *s)
 {
-    uint32_t object = get32(s->block + 3);
+    uint32_t object = get32(s->block + AT_OBJECT);
     uint64_t count;
-    if (s->block[1] & 0x02)
-        s->current = s->block[8];
+    if (s->block[1] & CP)
+        s->current = s->block[AT_PARTITION];
     count = s->tape[s->current].count;
     if (FAULT == 10)
         count &= 0xffff;
     s->position = smaller(object, count);
     if (object > count)
-        tell(s, 0, 0x8, 0x00, 0x05, 0);
+        tell(s, TOLD_END_OF_DATA, 0);
 }
 
 static inline void erase(struct session *s)
 {
     const struct tape *tape = &s->tape[s->current];
     uint8_t *image = s->image[s->current];
-    uint64_t from = end_before(tape, s->position), to = tape->length - 16 - 4 * s->position;
+    uint64_t from = end_before(tape, s->position), to = tape->length - TRAILER - ENTRY * s->position;
     if (FAULT == 8)
-        to = tape->length - 16 - 4 * tape->count;
+        to = tape->length - TRAILER - ENTRY * tape->count;
     lay_count(image, tape->length, s->position);
-    if (s->block[1] & 0x01 && to > from)
+    if (s->block[1] & LONG && to > from)
         memset(image + from, 0, to - from);
 }
 
@@ -170,7 +170,7 @@ static inline void load_unload(struct session *s)
 {
     s->current = 0;
     s->position = 0;
-    if ((s->block[4] & 0x01) == 0)
+    if ((s->block[AT_LOAD] & LOAD) == 0)
         s->loaded = s->partitions = 0;
 }
 
@@ -186,19 +186,19 @@ static inline void hand_over(struct session *s, const uint8_t *data)
 static inline void read_position(struct session *s)
 {
     const struct tape *tape = &s->tape[s->current];
-    uint8_t data[32] = {0};
+    uint8_t data[LONG_BYTES] = {0};
     uint32_t filemarks = 0;
-    data[0] = (uint8_t)((s->position == 0 ? 0x80 : 0) | (in_zone(tape, s->position) ? 0x40 : 0));
-    if (s->block[1] == 0x06) {
+    data[0] = (uint8_t)((s->position == 0 ? POSITION_BOP : 0) | (in_zone(tape, s->position) ? POSITION_ZONE : 0));
+    if (s->block[1] == FORM_LONG) {
         for (uint64_t i = 0; i < s->position; i++)
             filemarks += (uint32_t)tape->objects[i].is_filemark;
-        put32(data + 4, s->current);
-        put32(data + 12, (uint32_t)s->position);
-        put32(data + 20, filemarks);
+        put32(data + LONG_PARTITION, s->current);
+        put32(data + LONG_POSITION, (uint32_t)s->position);
+        put32(data + LONG_FILEMARKS, filemarks);
     } else {
-        data[1] = s->current;
-        put32(data + 4, (uint32_t)s->position);
-        put32(data + 8, (uint32_t)s->position);
+        data[SHORT_PARTITION] = s->current;
+        put32(data + SHORT_FIRST, (uint32_t)s->position);
+        put32(data + SHORT_LAST, (uint32_t)s->position);
     }
     hand_over(s, data);
 }
@@ -206,27 +206,29 @@ static inline void read_position(struct session *s)
 static inline void mode_sense(struct session *s)
 {
     unsigned of = FAULT == 7 && s->partitions == 2 ? 1u - s->current : s->current;
-    uint8_t wp = s->loaded && s->tape[of].is_protected ? 0x80 : 0x00;
-    uint8_t with_descriptor[12] = {0x0b, 0x00, wp, 0x08}, header[4] = {0x03, 0x00, wp, 0x00};
+    uint8_t wp = s->loaded && s->tape[of].is_protected ? MODE_WP : 0x00;
+    /* As 01 prints them: "0B 00 wp 08" and "03 00 wp 00". */
+    uint8_t with_descriptor[MODE_BYTES] = {0x0b, 0x00, wp, 0x08}, header[MODE_HEADER] = {0x03, 0x00, wp, 0x00};
     /* Three bytes of block length; the byte before them is 0, as a block length has no fourth. */
-    put32(with_descriptor + 8, (uint32_t)s->block_length);
-    hand_over(s, mode_bytes(s) == 4 ? header : with_descriptor);
+    put32(with_descriptor + AT_BLOCK_LENGTH - 1, (uint32_t)s->block_length);
+    hand_over(s, mode_bytes(s) == MODE_HEADER ? header : with_descriptor);
 }
 
 static inline void mode_select(struct session *s)
 {
     const uint8_t *list = s->sent;
-    uint64_t length = s->block[4];
+    uint64_t length = s->block[AT_ALLOCATION];
     if (length == 0)
         return;
-    if (list[1] != 0 || list[2] != 0 || list[3] != (length == 12 ? 8 : 0)) {
-        tell_error(s, 0x5, 0x26);
+    if (list[1] != 0 || list[2] != 0 || list[AT_DESCRIPTOR] != (length == MODE_BYTES ? MODE_DESCRIPTOR : 0)) {
+        tell(s, TOLD_LIST, 0);
         return;
     }
-    if (length == 12) {
-        uint32_t block_length = get32(list + 8) & 0xffffff;
-        if (get32(list + 4) != 0 || block_length > BLOCK_MOST) {
-            tell_error(s, 0x5, 0x26);
+    if (length == MODE_BYTES) {
+        /* The byte before the block length is ignored, and the four before that are zero. */
+        uint32_t block_length = get32(list + AT_BLOCK_LENGTH - 1) & 0xffffff;
+        if (get32(list + MODE_HEADER) != 0 || block_length > LARGEST_BLOCK) {
+            tell(s, TOLD_LIST, 0);
             return;
         }
         s->block_length = block_length;
@@ -236,7 +238,7 @@ static inline void mode_select(struct session *s)
 
 static inline void request_sense(struct session *s, const uint8_t *kept)
 {
-    if (s->attention != 0x00) {
+    if (s->attention != ATTENTION_NONE) {
         tell_attention(s);
         hand_over(s, s->sense);
         memcpy(s->sense, nothing_told, SENSE_BYTES);
@@ -250,26 +252,26 @@ static inline void request_sense(struct session *s, const uint8_t *kept)
 
 static inline void act(struct session *s, const uint8_t *kept)
 {
-    static const uint8_t limits[6] = {0x00, 0x01, 0x00, 0x00, 0x00, 0x01};
+    static const uint8_t limits[LIMITS_BYTES] = {0x00, 0x01, 0x00, 0x00, 0x00, 0x01};
     switch (s->block[0]) {
-    case 0x01: s->position = 0; break;
-    case 0x03: request_sense(s, kept); break;
-    case 0x05: hand_over(s, limits); break;
-    case 0x08:
+    case REWIND: s->position = 0; break;
+    case REQUEST_SENSE: request_sense(s, kept); break;
+    case READ_BLOCK_LIMITS: hand_over(s, limits); break;
+    case READ:
         if (is_fixed(s->block))
             read_fixed(s, count_of(s->block));
         else
             read_variable(s, count_of(s->block));
         break;
-    case 0x0a: write_blocks(s); break;
-    case 0x10: put_all(s, count_of(s->block), 0, 1); break;
-    case 0x11: space(s); break;
-    case 0x15: mode_select(s); break;
-    case 0x19: erase(s); break;
-    case 0x1a: mode_sense(s); break;
-    case 0x1b: load_unload(s); break;
-    case 0x2b: locate(s); break;
-    case 0x34: read_position(s); break;
+    case WRITE: write_blocks(s); break;
+    case WRITE_FILEMARKS: put_all(s, count_of(s->block), 0, 1); break;
+    case SPACE: space(s); break;
+    case MODE_SELECT: mode_select(s); break;
+    case ERASE: erase(s); break;
+    case MODE_SENSE: mode_sense(s); break;
+    case LOAD_UNLOAD: load_unload(s); break;
+    case LOCATE: locate(s); break;
+    case READ_POSITION: read_position(s); break;
     default: break; /* TEST UNIT READY */
     }
 }
@@ -289,12 +291,12 @@ static inline int cartridge_fits(struct session *s, const uint64_t length[2])
 /* Whatever was told before is replaced, by nothing unless something is told. */
 static inline void take_fields(struct session *s, const uint8_t *record)
 {
-    s->loaded = record[0];
-    s->partitions = record[1];
-    s->current = record[2];
-    s->attention = record[3];
-    s->position = get32(record + 4);
-    s->block_length = get32(record + 8);
+    s->loaded = record[STORMTOGGLE_RECORD_LOADED];
+    s->partitions = record[STORMTOGGLE_RECORD_PARTITIONS];
+    s->current = record[STORMTOGGLE_RECORD_CURRENT];
+    s->attention = record[STORMTOGGLE_RECORD_ATTENTION];
+    s->position = get32(record + STORMTOGGLE_RECORD_POSITION);
+    s->block_length = get32(record + STORMTOGGLE_RECORD_BLOCK_LENGTH);
     memcpy(s->sense, nothing_told, SENSE_BYTES);
     s->check_condition = 0;
     s->carried = 0;
@@ -302,13 +304,13 @@ static inline void take_fields(struct session *s, const uint8_t *record)
 
 static inline void lay_fields(const struct session *s, uint8_t *record)
 {
-    record[0] = s->loaded;
-    record[1] = s->partitions;
-    record[2] = s->current;
-    record[3] = s->attention;
-    put32(record + 4, (uint32_t)s->position);
-    put32(record + 8, (uint32_t)s->block_length);
-    memcpy(record + 12, s->sense, SENSE_BYTES);
+    record[STORMTOGGLE_RECORD_LOADED] = s->loaded;
+    record[STORMTOGGLE_RECORD_PARTITIONS] = s->partitions;
+    record[STORMTOGGLE_RECORD_CURRENT] = s->current;
+    record[STORMTOGGLE_RECORD_ATTENTION] = s->attention;
+    put32(record + STORMTOGGLE_RECORD_POSITION, (uint32_t)s->position);
+    put32(record + STORMTOGGLE_RECORD_BLOCK_LENGTH, (uint32_t)s->block_length);
+    memcpy(record + STORMTOGGLE_RECORD_SENSE, s->sense, SENSE_BYTES);
 }
 
 static inline uint64_t model_command(uint8_t *record, size_t record_length, const uint8_t *block, size_t block_length,
@@ -319,9 +321,9 @@ static inline uint64_t model_command(uint8_t *record, size_t record_length, cons
     struct session *s = &session;
     const uint64_t lengths[2] = {p0_length, p1_length};
     if (block_length == 0 || block_length < block_bytes(block[0]))
-        return refused(1);
+        return refused(BY_COMMAND);
     if (!record_is_well_formed(record, record_length))
-        return refused(4);
+        return refused(BY_DRIVE);
     s->block = block;
     s->image[0] = p0;
     s->image[1] = p1;
@@ -329,13 +331,13 @@ static inline uint64_t model_command(uint8_t *record, size_t record_length, cons
     s->received = received;
     take_fields(s, record);
     if (!cartridge_fits(s, lengths))
-        return refused(4);
+        return refused(BY_DRIVE);
     if (!ends_before_the_act(s)) {
         if (bytes_to_take(s) > sent_length)
-            return refused(2);
+            return refused(BY_SENT);
         if (bytes_to_hand_over(s) > received_length)
-            return refused(3);
-        act(s, record + 12);
+            return refused(BY_RECEIVED);
+        act(s, record + STORMTOGGLE_RECORD_SENSE);
     }
     lay_fields(s, record);
     return answered(s->check_condition, s->carried);

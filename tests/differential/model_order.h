@@ -18,43 +18,27 @@ struct session {
     uint64_t carried;
 };
 
-enum { FILEMARK_FLAG = 0x80, EOM_FLAG = 0x40, ILI_FLAG = 0x20 };
-
 /* ---- the tables */
 
 static inline unsigned block_bytes(uint8_t code)
 {
-    if (code <= 0x1f)
-        return 6;
-    if (code <= 0x5f)
-        return 10;
-    if (code >= 0x80 && code <= 0x9f)
-        return 16;
-    if (code >= 0xa0 && code <= 0xbf)
-        return 12;
+    if (code < CODES_OF_10)
+        return BYTES_6;
+    if (code < CODES_OF_NONE)
+        return BYTES_10;
+    if (code >= CODES_OF_16 && code < CODES_OF_12)
+        return BYTES_16;
+    if (code >= CODES_OF_12 && code < CODES_BEHIND_12)
+        return BYTES_12;
     return 0;
 }
 
+#define SERVED_ROW(code, name, without_cartridge, ...) {code, without_cartridge, {0, __VA_ARGS__}, name},
 static const struct served {
     uint8_t code, without_cartridge;
-    uint8_t mask[10]; /* mask[0] is not used */
+    uint8_t mask[BYTES_10]; /* mask[0] is not used */
     const char *name;
-} all_served[] = {
-    {0x00, 0, {0}, "TEST UNIT READY"},
-    {0x01, 0, {0, 0x01}, "REWIND"},
-    {0x03, 1, {0, 0, 0, 0, 0xff}, "REQUEST SENSE"},
-    {0x05, 1, {0}, "READ BLOCK LIMITS"},
-    {0x08, 0, {0, 0x03, 0xff, 0xff, 0xff}, "READ"},
-    {0x0a, 0, {0, 0x01, 0xff, 0xff, 0xff}, "WRITE"},
-    {0x10, 0, {0, 0, 0xff, 0xff, 0xff}, "WRITE FILEMARKS"},
-    {0x11, 0, {0, 0x0f, 0xff, 0xff, 0xff}, "SPACE"},
-    {0x15, 1, {0, 0x10, 0, 0, 0xff}, "MODE SELECT"},
-    {0x19, 0, {0, 0x03}, "ERASE"},
-    {0x1a, 1, {0, 0x08, 0x3f, 0, 0xff}, "MODE SENSE"},
-    {0x1b, 0, {0, 0x01, 0, 0, 0x01}, "LOAD UNLOAD"},
-    {0x2b, 0, {0, 0x03, 0, 0xff, 0xff, 0xff, 0xff, 0, 0xff}, "LOCATE"},
-    {0x34, 0, {0, 0x1f}, "READ POSITION"},
-};
+} all_served[] = {SERVED(SERVED_ROW)};
 
 static inline const struct served *served_as(uint8_t code)
 {
@@ -69,18 +53,19 @@ static inline const struct served *served_as(uint8_t code)
 /* Bytes 2 to 4: READ, WRITE and WRITE FILEMARKS count with them, SPACE too. */
 static inline uint32_t count_of(const uint8_t *block)
 {
-    return (uint32_t)block[2] << 16 | (uint32_t)block[3] << 8 | block[4];
+    const uint8_t *at = block + AT_COUNT;
+    return (uint32_t)at[0] << 16 | (uint32_t)at[1] << 8 | at[2];
 }
 
 static inline int64_t signed_count_of(const uint8_t *block)
 {
     int64_t count = count_of(block);
-    return count >= 0x800000 ? count - 0x1000000 : count;
+    return count >= COUNT_SIGN ? count - (COUNT_MOST + 1) : count;
 }
 
 static inline int is_fixed(const uint8_t *block)
 {
-    return block[1] & 0x01;
+    return block[1] & FIXED;
 }
 
 static inline uint64_t smaller(uint64_t a, uint64_t b)
@@ -90,30 +75,25 @@ static inline uint64_t smaller(uint64_t a, uint64_t b)
 
 /* ---- sense */
 
-static inline void tell(struct session *s, unsigned flags, unsigned key, unsigned asc, unsigned ascq, int64_t residue)
+static inline void tell(struct session *s, enum told_number told, int64_t residue)
 {
-    uint8_t code = s->block[0];
-    int counts = code == 0x08 || code == 0x0a || code == 0x10 || code == 0x11;
-    int is_valid = counts && (key == 0x0 || key == 0x8 || key == 0xd);
+    uint8_t code = s->block[0], key = TOLD_KEY(told);
+    int counts = code == READ || code == WRITE || code == WRITE_FILEMARKS || code == SPACE;
+    int is_valid = counts && (key == KEY_NONE || key == KEY_BLANK || key == KEY_OVERFLOW);
     memset(s->sense, 0, SENSE_BYTES);
-    s->sense[0] = is_valid ? 0xf0 : 0x70;
-    s->sense[2] = (uint8_t)(flags | key);
-    put32(s->sense + 3, is_valid ? (uint32_t)(residue & 0xffffffff) : 0);
-    s->sense[7] = 0x0a;
-    s->sense[12] = (uint8_t)asc;
-    s->sense[13] = (uint8_t)ascq;
+    s->sense[STORMTOGGLE_SENSE_FIRST] = is_valid ? STORMTOGGLE_VALID : STORMTOGGLE_NOT_VALID;
+    s->sense[STORMTOGGLE_SENSE_KEY] = TOLD_BYTE_2(told);
+    put32(s->sense + STORMTOGGLE_SENSE_INFORMATION, is_valid ? (uint32_t)(residue & 0xffffffff) : 0);
+    s->sense[STORMTOGGLE_SENSE_REST] = SENSE_REST;
+    s->sense[STORMTOGGLE_SENSE_ASC] = TOLD_ASC(told);
+    s->sense[STORMTOGGLE_SENSE_ASCQ] = TOLD_ASCQ(told);
     s->check_condition = 1;
-}
-
-static inline void tell_error(struct session *s, unsigned key, unsigned asc)
-{
-    tell(s, 0, key, asc, 0x00, 0);
 }
 
 static inline void tell_attention(struct session *s)
 {
-    tell_error(s, 0x6, s->attention);
-    s->attention = 0x00;
+    tell(s, s->attention == ATTENTION_MOUNTED ? TOLD_MOUNTED : TOLD_FRESH, 0);
+    s->attention = ATTENTION_NONE;
 }
 
 /* ---- the tests before the act */
@@ -125,12 +105,12 @@ static inline int fields_are_wrong(const struct session *s, const struct served 
         if (block[i] & ~served->mask[i])
             return 1;
     switch (block[0]) {
-    case 0x08: return (block[1] & 0x03) == 0x03 || (is_fixed(block) && s->block_length == 0);
-    case 0x0a: return is_fixed(block) ? s->block_length == 0 : count_of(block) > BLOCK_MOST;
-    case 0x11: return block[1] != 0 && block[1] != 1 && block[1] != 3;
-    case 0x15: return (block[1] & 0x10) == 0;
-    case 0x1a: return block[2] != 0x00 && block[2] != 0x3f;
-    case 0x34: return block[1] != 0x00 && block[1] != 0x06;
+    case READ: return is_fixed(block) && (block[1] & SILI || s->block_length == 0);
+    case WRITE: return is_fixed(block) ? s->block_length == 0 : count_of(block) > LARGEST_BLOCK;
+    case SPACE: return block[1] != BLOCKS && block[1] != FILEMARKS && block[1] != TO_END_OF_DATA;
+    case MODE_SELECT: return (block[1] & PF) == 0;
+    case MODE_SENSE: return block[AT_PAGE] != PAGE_NONE && block[AT_PAGE] != PAGE_ALL;
+    case READ_POSITION: return block[1] != FORM_SHORT && block[1] != FORM_LONG;
     default: return 0;
     }
 }
@@ -143,32 +123,37 @@ static inline uint64_t transfer_bytes(const struct session *s)
 static inline uint64_t bytes_to_take(const struct session *s)
 {
     switch (s->block[0]) {
-    case 0x0a: return transfer_bytes(s);
-    case 0x15: return s->block[4];
+    case WRITE: return transfer_bytes(s);
+    case MODE_SELECT: return s->block[AT_ALLOCATION];
     default: return 0;
     }
 }
 
 static inline uint64_t mode_bytes(const struct session *s)
 {
-    return s->block[1] & 0x08 ? 4 : 12;
+    return s->block[1] & DBD ? MODE_HEADER : MODE_BYTES;
 }
 
 static inline uint64_t bytes_to_hand_over(const struct session *s)
 {
     switch (s->block[0]) {
-    case 0x03: return smaller(s->block[4], SENSE_BYTES);
-    case 0x05: return 6;
-    case 0x08: return transfer_bytes(s);
-    case 0x1a: return smaller(s->block[4], mode_bytes(s));
-    case 0x34: return s->block[1] == 0x06 ? 32 : 20;
+    case REQUEST_SENSE: return smaller(s->block[AT_ALLOCATION], SENSE_BYTES);
+    case READ_BLOCK_LIMITS: return LIMITS_BYTES;
+    case READ: return transfer_bytes(s);
+    case MODE_SENSE: return smaller(s->block[AT_ALLOCATION], mode_bytes(s));
+    case READ_POSITION: return s->block[1] == FORM_LONG ? LONG_BYTES : SHORT_BYTES;
     default: return 0;
     }
 }
 
+static inline int list_length_is_right(uint8_t length)
+{
+    return length == 0 || length == MODE_HEADER || length == MODE_BYTES;
+}
+
 static inline int changes_cartridge(uint8_t code)
 {
-    return code == 0x0a || code == 0x10 || code == 0x19;
+    return code == WRITE || code == WRITE_FILEMARKS || code == ERASE;
 }
 
 /* From attention to protection, in 01's order. Whether the command is over. */
@@ -176,20 +161,20 @@ static inline int ends_before_the_act(struct session *s)
 {
     const uint8_t *block = s->block;
     const struct served *served = served_as(block[0]);
-    if (s->attention != 0x00 && block[0] != 0x03 && (FAULT != 6 || served != NULL))
+    if (s->attention != ATTENTION_NONE && block[0] != REQUEST_SENSE && (FAULT != 6 || served != NULL))
         return tell_attention(s), 1;
     if (served == NULL)
-        return tell_error(s, 0x5, 0x20), 1;
+        return tell(s, TOLD_NOT_SERVED, 0), 1;
     if (fields_are_wrong(s, served))
-        return tell_error(s, 0x5, 0x24), 1;
-    if (block[0] == 0x15 && block[4] != 0 && block[4] != 4 && block[4] != 12)
-        return tell_error(s, 0x5, 0x1a), 1;
+        return tell(s, TOLD_FIELD, 0), 1;
+    if (block[0] == MODE_SELECT && !list_length_is_right(block[AT_ALLOCATION]))
+        return tell(s, TOLD_LIST_LENGTH, 0), 1;
     if (!s->loaded && !served->without_cartridge)
-        return tell_error(s, 0x2, 0x3a), 1;
-    if (block[0] == 0x2b && block[1] & 0x02 && block[8] >= s->partitions)
-        return tell_error(s, 0x5, 0x24), 1;
+        return tell(s, TOLD_NOT_LOADED, 0), 1;
+    if (block[0] == LOCATE && block[1] & CP && block[AT_PARTITION] >= s->partitions)
+        return tell(s, TOLD_FIELD, 0), 1;
     if (changes_cartridge(block[0]) && s->tape[s->current].is_protected)
-        return tell_error(s, 0x7, 0x27), 1;
+        return tell(s, TOLD_PROTECTED, 0), 1;
     return 0;
 }
 

@@ -15,17 +15,17 @@ static inline unsigned long shown(unsigned long count)
 static inline void report_services(void)
 {
     /* The refusals that each service has; 0 is the call done. */
-    static const uint8_t possible[SERVICES][8] = {
-        [FRESH] = {[0] = 1, [4] = 1},
-        [BLANK] = {[0] = 1, [7] = 1},
-        [MOUNT] = {[0] = 1, [4] = 1, [5] = 1, [6] = 1, [7] = 1},
-        [PROTECT] = {[0] = 1, [6] = 1, [7] = 1},
+    static const uint8_t possible[SERVICES][BY_MOST + 1] = {
+        [FRESH] = {[0] = 1, [BY_DRIVE] = 1},
+        [BLANK] = {[0] = 1, [BY_LENGTH] = 1},
+        [MOUNT] = {[0] = 1, [BY_DRIVE] = 1, [BY_LOADED] = 1, [BY_UNSOUND] = 1, [BY_LENGTH] = 1},
+        [PROTECT] = {[0] = 1, [BY_UNSOUND] = 1, [BY_LENGTH] = 1},
         [VIEW] = {[0] = 1},
-        [A_COMMAND] = {[0] = 1, [1] = 1, [2] = 1, [3] = 1, [4] = 1},
+        [A_COMMAND] = {[0] = 1, [BY_COMMAND] = 1, [BY_SENT] = 1, [BY_RECEIVED] = 1, [BY_DRIVE] = 1},
     };
     for (int i = 0; i < SERVICES; i++) {
         printf("%-8s %9lu calls, done %lu", service_names[i], shown(reached.services[i]), reached.refusals[i][0]);
-        for (int number = 1; number < 8; number++)
+        for (int number = 1; number <= BY_MOST; number++)
             if (possible[i][number])
                 printf(", refused by %d %lu", number, shown(reached.refusals[i][number]));
         printf("\n");
@@ -51,16 +51,14 @@ static inline void report_commands(void)
 
 static inline void report_senses(void)
 {
-    static const uint8_t senses[][3] = {
-        {0x0, 0x00, 0x00}, {0x0, 0x00, 0x01}, {0x0, 0x00, 0x02}, {0x0, 0x00, 0x04}, {0x2, 0x3a, 0x00},
-        {0x5, 0x1a, 0x00}, {0x5, 0x20, 0x00}, {0x5, 0x24, 0x00}, {0x5, 0x26, 0x00}, {0x6, 0x28, 0x00},
-        {0x6, 0x29, 0x00}, {0x7, 0x27, 0x00}, {0x8, 0x00, 0x05}, {0xd, 0x00, 0x02},
+    static const enum told_number senses[] = {
+        TOLD_LENGTH, TOLD_FILEMARK, TOLD_ZONE, TOLD_BEGINNING, TOLD_NOT_LOADED, TOLD_LIST_LENGTH, TOLD_NOT_SERVED,
+        TOLD_FIELD, TOLD_LIST, TOLD_MOUNTED, TOLD_FRESH, TOLD_PROTECTED, TOLD_END_OF_DATA, TOLD_OVERFLOW,
     };
     printf("sense");
     for (size_t i = 0; i < COUNT(senses); i++) {
-        const uint8_t *told = senses[i];
-        printf("%s%X/%02X/%02X %lu", i == 0 ? " " : ", ", told[0], told[1], told[2],
-               shown(reached.sense[told[0]][told[1]][told[2]]));
+        unsigned key = TOLD_KEY(senses[i]), asc = TOLD_ASC(senses[i]), ascq = TOLD_ASCQ(senses[i]);
+        printf("%s%X/%02X/%02X %lu", i == 0 ? " " : ", ", key, asc, ascq, shown(reached.sense[key][asc][ascq]));
     }
     printf("\n");
 }

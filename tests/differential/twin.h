@@ -90,7 +90,7 @@ struct call {
 
 /* How often each thing was reached, by the model's answers. */
 static struct {
-    unsigned long calls, wanted, mismatches, services[SERVICES], refusals[SERVICES][8];
+    unsigned long calls, wanted, mismatches, services[SERVICES], refusals[SERVICES][BY_MOST + 1];
     unsigned long good[256], check[256], refused[256]; /* by operation code */
     unsigned long sense[16][256][256];                 /* by key, ASC and ASCQ */
     unsigned long views_found, read_only, null_slices, long_blocks, many_objects, most_objects;
@@ -209,11 +209,14 @@ static inline void set_access(enum slice slice, int access)
 static inline int lays_bytes(enum slice slice, uint64_t answer)
 {
     const uint8_t *block = bytes_of(COMMAND, MODEL);
-    if (latest.service != A_COMMAND || answer >> 32 & 7 || slice != (record_before[2] == 0 ? P0 : P1))
+    enum slice current = record_before[STORMTOGGLE_RECORD_CURRENT] == 0 ? P0 : P1;
+    uint32_t from = get32(record_before + STORMTOGGLE_RECORD_POSITION);
+    if (latest.service != A_COMMAND || STORMTOGGLE_REFUSAL(answer) != 0 || slice != current)
         return 0;
-    if (block[0] == 0x19)
-        return (answer >> 35 & 1) == 0 && block[1] & 0x01;
-    return (block[0] == 0x0a || block[0] == 0x10) && memcmp(bytes_of(RECORD, MODEL) + 4, record_before + 4, 4) != 0;
+    if (block[0] == ERASE)
+        return STORMTOGGLE_STATUS(answer) == STORMTOGGLE_GOOD && block[1] & LONG;
+    return (block[0] == WRITE || block[0] == WRITE_FILEMARKS) &&
+           get32(bytes_of(RECORD, MODEL) + STORMTOGGLE_RECORD_POSITION) != from;
 }
 
 /* Whether no store may go there: the constant slices, and a partition that the model left as it was. The library has
@@ -246,8 +249,8 @@ static inline void unseal(const int sealed[SLICES])
 
 static inline void count_reached(uint64_t answer)
 {
-    unsigned refusal = latest.service == VIEW ? 0 : (unsigned)(answer >> 32 & 7);
-    const uint8_t *sense = bytes_of(RECORD, MODEL) + 12;
+    unsigned refusal = latest.service == VIEW ? 0 : STORMTOGGLE_REFUSAL(answer);
+    const uint8_t *sense = bytes_of(RECORD, MODEL) + STORMTOGGLE_RECORD_SENSE;
     uint8_t code;
     reached.services[latest.service]++;
     reached.refusals[latest.service][refusal]++;
@@ -260,9 +263,10 @@ static inline void count_reached(uint64_t answer)
     reached.long_blocks += twins[COMMAND].length > 256;
     if (refusal != 0) {
         reached.refused[code]++;
-    } else if (answer >> 35 & 1) {
+    } else if (STORMTOGGLE_STATUS(answer) != STORMTOGGLE_GOOD) {
         reached.check[code]++;
-        reached.sense[sense[2] & 0x0f][sense[12]][sense[13]]++;
+        reached.sense[sense[STORMTOGGLE_SENSE_KEY] & STORMTOGGLE_KEY][sense[STORMTOGGLE_SENSE_ASC]]
+                     [sense[STORMTOGGLE_SENSE_ASCQ]]++;
     } else {
         reached.good[code]++;
     }

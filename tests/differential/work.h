@@ -21,11 +21,11 @@ static inline void look(void)
     seen.partitions = seen.current = 0;
     seen.position = seen.block_length = 0;
     if (twins[RECORD].length >= RECORD_BYTES) {
-        seen.loaded = record[0] == 1;
-        seen.partitions = record[1];
-        seen.current = record[2] == 1;
-        seen.position = get32(record + 4);
-        seen.block_length = get32(record + 8);
+        seen.loaded = record[STORMTOGGLE_RECORD_LOADED] == 1;
+        seen.partitions = record[STORMTOGGLE_RECORD_PARTITIONS];
+        seen.current = record[STORMTOGGLE_RECORD_CURRENT] == 1;
+        seen.position = get32(record + STORMTOGGLE_RECORD_POSITION);
+        seen.block_length = get32(record + STORMTOGGLE_RECORD_BLOCK_LENGTH);
     }
     slice = seen.current == 1 ? P1 : P0;
     decode(&seen.tape, bytes_of(slice, MODEL), twins[slice].length);
@@ -41,7 +41,7 @@ static inline uint64_t seen_room(void)
 /* How many bytes of room the zone takes. */
 static inline uint64_t seen_zone(void)
 {
-    return length_is_lawful(seen.tape.length) ? (seen.tape.length - 16) / 16 : 0;
+    return length_is_lawful(seen.tape.length) ? (seen.tape.length - TRAILER) / ZONE_SHARE : 0;
 }
 
 /* ---- the numbers in a command block */
@@ -49,8 +49,8 @@ static inline uint64_t seen_zone(void)
 /* Products of 2^32 and more, among them those whose low 32 bits are 0, and merely large ones. */
 static inline uint64_t large_count(void)
 {
-    static const uint32_t counts[] = {0x010000, 0x020000, 0x800000, 0x7fffff, 0xffffff, 0x010001, 0xff0000};
-    return one_in(3) ? draw(1 << 24) : counts[draw(COUNT(counts))];
+    static const uint32_t counts[] = {0x010000, 0x020000, COUNT_SIGN, COUNT_SIGN - 1, COUNT_MOST, 0x010001, 0xff0000};
+    return one_in(3) ? draw(1 << COUNT_BITS) : counts[draw(COUNT(counts))];
 }
 
 static inline uint64_t read_length(int fixed)
@@ -76,13 +76,13 @@ static inline uint64_t write_length(int fixed)
     if (one_in(60))
         return large_count();
     if (fixed)
-        return one_in(4) ? near(room / (seen.block_length + 4)) % 4096 : draw(4);
+        return one_in(4) ? near(room / (seen.block_length + ENTRY)) % 4096 : draw(4);
     switch (draw(12)) {
-    case 0: return near(less(room, 4)) % (BLOCK_MOST + 2);
-    case 1: return near(less(room, 4 + seen_zone())) % (BLOCK_MOST + 2);
-    case 2: return draw(room + 6) % (BLOCK_MOST + 1);
-    case 3: return room > BLOCK_MOST || one_in(8) ? near(BLOCK_MOST) : draw(30);
-    case 4: return room > BLOCK_MOST ? BLOCK_MOST : draw(room / 4 + 2);
+    case 0: return near(less(room, ENTRY)) % (LARGEST_BLOCK + 2);
+    case 1: return near(less(room, ENTRY + seen_zone())) % (LARGEST_BLOCK + 2);
+    case 2: return draw(room + 6) % (LARGEST_BLOCK + 1);
+    case 3: return room > LARGEST_BLOCK || one_in(8) ? near(LARGEST_BLOCK) : draw(30);
+    case 4: return room > LARGEST_BLOCK ? LARGEST_BLOCK : draw(room / 4 + 2);
     case 5: return seen.block_length;
     default: return draw(9);
     }
@@ -95,8 +95,8 @@ static inline uint64_t filemark_count(void)
     if (room > 40000 && !one_in(20))
         return draw(6);
     switch (draw(10)) {
-    case 0: return near(room / 4);
-    case 1: return near(less(room, seen_zone()) / 4);
+    case 0: return near(room / ENTRY);
+    case 1: return near(less(room, seen_zone()) / ENTRY);
     case 2: return one_in(3) ? large_count() : 0;
     default: return draw(5);
     }
@@ -106,7 +106,7 @@ static inline uint64_t space_count(void)
 {
     if (one_in(12))
         return large_count();
-    return (draw(15) - 7) & 0xffffff;
+    return (draw(15) - 7) & COUNT_MOST;
 }
 
 /* ---- command blocks */
@@ -115,9 +115,9 @@ static uint8_t block[PAGE_BYTES];
 
 static inline void set_count(uint64_t count)
 {
-    block[2] = (uint8_t)(count >> 16);
-    block[3] = (uint8_t)(count >> 8);
-    block[4] = (uint8_t)count;
+    block[AT_COUNT] = (uint8_t)(count >> 16);
+    block[AT_COUNT + 1] = (uint8_t)(count >> 8);
+    block[AT_COUNT + 2] = (uint8_t)count;
 }
 
 static inline void set_locate(void)
@@ -125,24 +125,25 @@ static inline void set_locate(void)
     uint64_t object = one_in(12) ? draw_64() : draw(seen.tape.count + 1);
     if (one_in(5))
         object = near(seen.tape.count);
-    block[1] = (uint8_t)(one_in(8) | one_in(3) << 1);
-    put32(block + 3, (uint32_t)object);
-    block[8] = (uint8_t)(one_in(8) ? draw(256) : draw(2));
+    block[1] = (uint8_t)(one_in(8) * IMMED | one_in(3) * CP);
+    put32(block + AT_OBJECT, (uint32_t)object);
+    block[AT_PARTITION] = (uint8_t)(one_in(8) ? draw(256) : draw(2));
 }
 
 /* The list is laid when it is lent. */
-static uint8_t list[12];
+static uint8_t list[MODE_BYTES];
 
 static inline void set_mode_select(void)
 {
-    static const uint32_t lengths[] = {0, 0, 0, 1, 2, 3, 3, 4, 5, 8, 16, 100, 512, 65535, 65536, 65537, 0xffffff};
+    static const uint32_t lengths[] = {
+        0, 0, 0, 1, 2, 3, 3, 4, 5, 8, 16, 100, 512, LARGEST_BLOCK - 1, LARGEST_BLOCK, LARGEST_BLOCK + 1, 0xffffff};
     uint32_t block_length = one_in(10) ? draw(70000) : lengths[draw(COUNT(lengths))];
-    block[1] = one_in(20) ? 0x00 : 0x10;
-    block[4] = (uint8_t)(one_in(6) ? draw(14) : one_in(10) ? 0 : one_in(4) ? 4 : 12);
+    block[1] = one_in(20) ? 0x00 : PF;
+    block[AT_ALLOCATION] = (uint8_t)(one_in(6) ? draw(14) : one_in(10) ? 0 : one_in(4) ? MODE_HEADER : MODE_BYTES);
     memset(list, 0, sizeof list);
     list[0] = (uint8_t)draw(256);
-    list[3] = block[4] == 12 ? 8 : 0;
-    put32(list + 8, draw(256) << 24 | block_length);
+    list[AT_DESCRIPTOR] = block[AT_ALLOCATION] == MODE_BYTES ? MODE_DESCRIPTOR : 0;
+    put32(list + AT_BLOCK_LENGTH - 1, draw(256) << 24 | block_length);
     if (one_in(8))
         list[draw(sizeof list)] ^= (uint8_t)(1 << draw(8));
 }
@@ -154,34 +155,38 @@ static inline void set_block(uint8_t code)
     memset(block, 0, 20);
     block[0] = code;
     switch (code) {
-    case 0x01: block[1] = (uint8_t)draw(2); break;
-    case 0x03: block[4] = (uint8_t)(one_in(2) ? 18 : one_in(2) ? 255 : draw(24)); break;
-    case 0x08:
-        block[1] = (uint8_t)(fixed ? 1 | one_in(40) << 1 : one_in(3) << 1);
+    case REWIND: block[1] = (uint8_t)draw(2); break;
+    case REQUEST_SENSE:
+        block[AT_ALLOCATION] = (uint8_t)(one_in(2) ? SENSE_BYTES : one_in(2) ? 255 : draw(24));
+        break;
+    case READ:
+        block[1] = (uint8_t)(fixed ? FIXED | one_in(40) * SILI : one_in(3) * SILI);
         set_count(read_length(fixed));
         break;
-    case 0x0a:
-        block[1] = (uint8_t)fixed;
+    case WRITE:
+        block[1] = (uint8_t)(fixed * FIXED);
         set_count(write_length(fixed));
         break;
-    case 0x10: set_count(filemark_count()); break;
-    case 0x11:
-        block[1] = (uint8_t)(one_in(20) ? draw(16) : one_in(10) ? 3 : draw(2));
+    case WRITE_FILEMARKS: set_count(filemark_count()); break;
+    case SPACE:
+        block[1] = (uint8_t)(one_in(20) ? draw(16) : one_in(10) ? TO_END_OF_DATA : draw(2));
         set_count(space_count());
         break;
-    case 0x15: set_mode_select(); break;
-    case 0x19: block[1] = (uint8_t)draw(4); break;
-    case 0x1a:
-        block[1] = (uint8_t)(one_in(3) << 3);
-        block[2] = (uint8_t)(one_in(12) ? draw(64) : one_in(2) ? 0x3f : 0);
-        block[4] = (uint8_t)(one_in(2) ? 255 : draw(16));
+    case MODE_SELECT: set_mode_select(); break;
+    case ERASE: block[1] = (uint8_t)draw(4); break;
+    case MODE_SENSE:
+        block[1] = (uint8_t)(one_in(3) * DBD);
+        block[AT_PAGE] = (uint8_t)(one_in(12) ? draw(64) : one_in(2) ? PAGE_ALL : PAGE_NONE);
+        block[AT_ALLOCATION] = (uint8_t)(one_in(2) ? 255 : draw(16));
         break;
-    case 0x1b:
+    case LOAD_UNLOAD:
         block[1] = (uint8_t)draw(2);
-        block[4] = !one_in(3);
+        block[AT_LOAD] = !one_in(3) * LOAD;
         break;
-    case 0x2b: set_locate(); break;
-    case 0x34: block[1] = (uint8_t)(one_in(20) ? draw(32) : draw(2) * 6); break;
+    case LOCATE: set_locate(); break;
+    case READ_POSITION:
+        block[1] = (uint8_t)(one_in(20) ? draw(32) : draw(2) == 0 ? FORM_SHORT : FORM_LONG);
+        break;
     default: break;
     }
 }
@@ -189,20 +194,23 @@ static inline void set_block(uint8_t code)
 /* Writing and reading come in turns, so that objects gather before they are moved over. */
 static inline uint8_t likely_code(void)
 {
-    static const uint8_t codes[] = {0x08, 0x08, 0x08, 0x08, 0x08, 0x0a, 0x0a, 0x0a, 0x0a, 0x0a, 0x0a, 0x10, 0x10,
-                                    0x11, 0x11, 0x11, 0x11, 0x11, 0x2b, 0x2b, 0x2b, 0x34, 0x34, 0x03, 0x03, 0x15,
-                                    0x15, 0x1a, 0x1a, 0x19, 0x01, 0x01, 0x00, 0x05, 0x1b};
+    static const uint8_t codes[] = {
+        READ, READ, READ, READ, READ, WRITE, WRITE, WRITE, WRITE, WRITE, WRITE, WRITE_FILEMARKS, WRITE_FILEMARKS,
+        SPACE, SPACE, SPACE, SPACE, SPACE, LOCATE, LOCATE, LOCATE, READ_POSITION, READ_POSITION, REQUEST_SENSE,
+        REQUEST_SENSE, MODE_SELECT, MODE_SELECT, MODE_SENSE, MODE_SENSE, ERASE, REWIND, REWIND, TEST_UNIT_READY,
+        READ_BLOCK_LIMITS, LOAD_UNLOAD,
+    };
     static int is_reading;
     uint8_t code = one_in(60) ? (uint8_t)draw(256) : codes[draw(COUNT(codes))];
-    int moves = code == 0x08 || code == 0x11 || code == 0x2b || code == 0x01;
+    int moves = code == READ || code == SPACE || code == LOCATE || code == REWIND;
     if (one_in(15))
         is_reading = !is_reading;
     if (is_reading && changes_cartridge(code) && !one_in(8))
-        code = 0x08;
+        code = READ;
     if (!is_reading && moves && !one_in(4))
-        code = one_in(4) ? 0x10 : 0x0a;
+        code = one_in(4) ? WRITE_FILEMARKS : WRITE;
     /* Where there is nothing to read, another place is mostly sought first. */
-    return code == 0x08 && seen.position == seen.tape.count && !one_in(4) ? 0x2b : code;
+    return code == READ && seen.position == seen.tape.count && !one_in(4) ? LOCATE : code;
 }
 
 /* Mostly just as long as the code says. Longer by far at times, as only the first bytes count, and a byte short. */
@@ -253,7 +261,7 @@ static inline void lend_buffers(void)
     struct session asked = {.block = block, .block_length = seen.block_length};
     uint64_t take = bytes_to_take(&asked), hand_over = bytes_to_hand_over(&asked);
     place(SENT, likely_room(take));
-    if (block[0] == 0x15)
+    if (block[0] == MODE_SELECT)
         lay(SENT, 0, list, smaller(twins[SENT].length, sizeof list));
     lend_received(likely_room(hand_over));
     reached.wide_products += take >= BEYOND_32_BITS || hand_over >= BEYOND_32_BITS;
@@ -264,7 +272,7 @@ static inline uint64_t call_command(void)
     uint64_t answer = make_call((struct call){.service = A_COMMAND});
     reached.many_objects += seen.tape.count > 65536;
     reached.most_objects += seen.tape.count > 100000;
-    reached.largest_blocks += block[0] == 0x0a && (uint32_t)answer == BLOCK_MOST;
+    reached.largest_blocks += block[0] == WRITE && STORMTOGGLE_CARRIED(answer) == LARGEST_BLOCK;
     return answer;
 }
 
@@ -272,7 +280,7 @@ static inline uint64_t likely_command(void)
 {
     set_block(likely_code());
     if (one_in(40))
-        block[draw(10)] ^= (uint8_t)(1 << draw(8));
+        block[draw(BYTES_10)] ^= (uint8_t)(1 << draw(8));
     lend_block(likely_block_length());
     lend_buffers();
     return call_command();
@@ -317,7 +325,7 @@ static inline uint64_t call_view(void)
 static inline uint64_t likely_call(uint64_t answer_before)
 {
     look();
-    if (answer_before == refused(4) && one_in(3))
+    if (answer_before == refused(BY_DRIVE) && one_in(3))
         return call_fresh();
     if (!seen.loaded && one_in(3))
         return call_mount();

@@ -21,8 +21,8 @@ static inline void begin_call(unsigned kind, struct holder *by, struct loan loan
 /* Whether the command came so far as to act: what it met then has key 0, 8 or Dh. */
 static inline int has_acted(uint64_t answer, const uint8_t *record)
 {
-    unsigned key = record[STORMTOGGLE_RECORD_SENSE + 2] & SENSE_KEY;
-    return STORMTOGGLE_STATUS(answer) == 0 || key == 0x0 || key == 0x8 || key == 0xd;
+    unsigned key = TOLD_KEY(told_by(record + STORMTOGGLE_RECORD_SENSE));
+    return STORMTOGGLE_STATUS(answer) == STORMTOGGLE_GOOD || key == KEY_NONE || key == KEY_BLANK || key == KEY_OVERFLOW;
 }
 
 static inline void count_answer(unsigned refusal)
@@ -45,9 +45,9 @@ static inline void end_call(uint64_t answer)
     count_answer(refusal);
     if (latest.by == NULL)
         return;
-    latest.by->was_refused = refusal == 4;
+    latest.by->was_refused = refusal == BY_DRIVE;
     happens(NEVER_BY_4, latest.by->alone_since);
-    if (refusal == 4 && latest.by->alone_since)
+    if (refusal == BY_DRIVE && latest.by->alone_since)
         mismatch("refused, though neither record nor cartridge was used with another since the mount");
 }
 
@@ -107,15 +107,15 @@ static inline void count_command(unsigned refusal)
 {
     const struct tape *tape = &ours[latest.before.current % partitions];
     const uint8_t *sense = latest.by->record + STORMTOGGLE_RECORD_SENSE;
-    uint32_t told = refusal == 0 && STORMTOGGLE_STATUS(latest.answer) != 0 ? condition_of(sense) : GOOD;
+    uint32_t told = refusal == 0 && STORMTOGGLE_STATUS(latest.answer) != STORMTOGGLE_GOOD ? told_by(sense) : TOLD_GOOD;
     count_loan(latest.loan);
     happens(UNDER_ODD_RECORDS, latest.by == &holders[ODD]);
-    happens(ABOVE_N, refusal == 4 && latest.by->is_mounted && is_whole(latest.loan) &&
+    happens(ABOVE_N, refusal == BY_DRIVE && latest.by->is_mounted && is_whole(latest.loan) &&
                          latest.before.position > end_of(&tape->history));
-    happens(ATTENTIONS_TOLD, told == MEDIUM_CHANGED || told == POWER_ON);
-    happens(CODES_NOT_SERVED, told == 0x052000);
-    happens(BAD_FIELDS, told == 0x052400);
-    happens(STOPPED_BY_PROTECTION, told == WRITE_PROTECTED);
+    happens(ATTENTIONS_TOLD, told == TOLD_MOUNTED || told == TOLD_FRESH);
+    happens(CODES_NOT_SERVED, told == TOLD_NOT_SERVED);
+    happens(BAD_FIELDS, told == TOLD_FIELD);
+    happens(STOPPED_BY_PROTECTION, told == TOLD_PROTECTED);
 }
 
 /* The block, and what is sent and received, stand in latest already. */

@@ -54,7 +54,7 @@ static inline int is_long(const struct tape *tape)
 
 static inline int is_protected(const struct tape *tape)
 {
-    return (get_field(tape->image, tape->length, FLAGS) & 1) != 0;
+    return (get_field(tape->image, tape->length, TRAILER_FLAGS) & FLAG_PROTECTED) != 0;
 }
 
 static inline void take_tape_back(struct tape *tape)
@@ -167,8 +167,8 @@ static inline void note_unloaded(struct holder *holder)
 /* The odd one has room for a length that is wrong. */
 static inline void lend_record(struct holder *holder)
 {
-    size_t room = holder == &holders[ODD] ? RECORD + 10 : RECORD;
-    *holder = (struct holder){lend(some_noise(room), room), room, RECORD, whole_cartridge(), 0, 0, 0, 0};
+    size_t room = holder == &holders[ODD] ? RECORD_BYTES + 10 : RECORD_BYTES;
+    *holder = (struct holder){lend(some_noise(room), room), room, RECORD_BYTES, whole_cartridge(), 0, 0, 0, 0};
 }
 
 /* Makes the odd record anew. The byte that is off is often the position's last, which leaves it well formed. */
@@ -177,13 +177,14 @@ static inline void make_odd(void)
     struct holder *odd = &holders[ODD];
     const struct holder *like = &holders[draw(drives)];
     note_unloaded(odd);
-    odd->length = one_in(10) ? draw(odd->room + 1) : RECORD;
+    odd->length = one_in(10) ? draw(odd->room + 1) : RECORD_BYTES;
     odd->usual = like->usual;
     memcpy(odd->record, some_noise(odd->room), odd->room);
     if (one_in(6))
         return;
-    memcpy(odd->record, like->record, RECORD);
-    odd->record[one_in(3) ? 7 : draw(RECORD)] += (uint8_t)(one_in(2) ? 1 : one_in(2) ? 0xff : draw(256));
+    memcpy(odd->record, like->record, RECORD_BYTES);
+    odd->record[one_in(3) ? STORMTOGGLE_RECORD_POSITION + 3 : draw(RECORD_BYTES)] +=
+        (uint8_t)(one_in(2) ? 1 : one_in(2) ? 0xff : draw(256));
 }
 
 #endif

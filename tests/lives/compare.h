@@ -8,13 +8,13 @@ static uint8_t *reading_record, *read_bytes; /* between canaries: for the compar
 
 static inline void lend_for_reading(void)
 {
-    reading_record = lend(noise, RECORD);
+    reading_record = lend(noise, RECORD_BYTES);
     read_bytes = lend(noise, LARGEST_BLOCK);
 }
 
 static inline void take_reading_back(void)
 {
-    take_back(reading_record, RECORD);
+    take_back(reading_record, RECORD_BYTES);
     take_back(read_bytes, LARGEST_BLOCK);
 }
 
@@ -94,7 +94,7 @@ static inline int views_agree(const struct tape *tape)
 static inline uint64_t command_whole(uint8_t *record, struct bytes block, uint8_t *received, size_t length)
 {
     struct loan loan = whole_cartridge();
-    return command_service(record, RECORD, block.at, block.length, bytes_at(loan, 0), length_at(loan, 0),
+    return command_service(record, RECORD_BYTES, block.at, block.length, bytes_at(loan, 0), length_at(loan, 0),
                            bytes_at(loan, 1), length_at(loan, 1), NULL, 0, received, length);
 }
 
@@ -103,17 +103,17 @@ enum meeting { A_BLOCK, A_FILEMARK, END_OF_TAPE, SOMETHING_ELSE };
 /* What a READ of the largest block met, told by the answer and the kept sense alone. */
 static inline enum meeting met_by(uint64_t answer, const uint8_t *sense, int hides_length)
 {
-    uint32_t carried = STORMTOGGLE_CARRIED(answer), information = get32(sense + 3);
+    uint32_t carried = STORMTOGGLE_CARRIED(answer), information = get32(sense + STORMTOGGLE_SENSE_INFORMATION);
     if (STORMTOGGLE_REFUSAL(answer) != 0)
         return SOMETHING_ELSE;
-    if (STORMTOGGLE_STATUS(answer) == 0)
+    if (STORMTOGGLE_STATUS(answer) == STORMTOGGLE_GOOD)
         return carried > 0 && (carried == LARGEST_BLOCK || hides_length) ? A_BLOCK : SOMETHING_ELSE;
-    if (sense[0] != SENSE_VALID || information != LARGEST_BLOCK - carried)
+    if (sense[STORMTOGGLE_SENSE_FIRST] != STORMTOGGLE_VALID || information != LARGEST_BLOCK - carried)
         return SOMETHING_ELSE;
-    switch (condition_of(sense)) {
-    case WRONG_LENGTH: return carried > 0 && !hides_length ? A_BLOCK : SOMETHING_ELSE;
-    case FILEMARK_DETECTED: return carried == 0 ? A_FILEMARK : SOMETHING_ELSE;
-    case END_OF_DATA: return carried == 0 ? END_OF_TAPE : SOMETHING_ELSE;
+    switch (told_by(sense)) {
+    case TOLD_LENGTH: return carried > 0 && !hides_length ? A_BLOCK : SOMETHING_ELSE;
+    case TOLD_FILEMARK: return carried == 0 ? A_FILEMARK : SOMETHING_ELSE;
+    case TOLD_END_OF_DATA: return carried == 0 ? END_OF_TAPE : SOMETHING_ELSE;
     default: return SOMETHING_ELSE;
     }
 }
@@ -185,10 +185,10 @@ static inline int reads_meet_all(uint8_t *record, const struct tape *tape)
 static inline int mount_for_reading(void)
 {
     struct loan loan = whole_cartridge();
-    uint8_t sense[SENSE];
+    uint8_t sense[SENSE_BYTES];
     uint64_t answer;
-    stormtoggle_fresh(reading_record, RECORD);
-    answer = stormtoggle_mount(reading_record, RECORD, bytes_at(loan, 0), length_at(loan, 0), bytes_at(loan, 1),
+    stormtoggle_fresh(reading_record, RECORD_BYTES);
+    answer = stormtoggle_mount(reading_record, RECORD_BYTES, bytes_at(loan, 0), length_at(loan, 0), bytes_at(loan, 1),
                                length_at(loan, 1));
     if (answer != DONE) {
         mismatch("the whole cartridge could not be mounted: refused by %u", STORMTOGGLE_REFUSAL(answer));
@@ -197,7 +197,7 @@ static inline int mount_for_reading(void)
     if (one_in(2))
         command_whole(reading_record, (struct bytes)SIX(TEST_UNIT_READY, 0, 0), NULL, 0);
     else
-        command_whole(reading_record, (struct bytes)SIX(REQUEST_SENSE, 0, SENSE), sense, SENSE);
+        command_whole(reading_record, (struct bytes)SIX(REQUEST_SENSE, 0, SENSE_BYTES), sense, SENSE_BYTES);
     return 1;
 }
 
@@ -207,14 +207,14 @@ static inline void read_under(const struct holder *holder)
     struct drive drive = drive_of(holder->record);
     const struct tape *tape = &ours[drive.current % partitions];
     uint64_t answer;
-    if (!holder->is_mounted || drive.attention != 0)
+    if (!holder->is_mounted || drive.attention != ATTENTION_NONE)
         return;
-    memcpy(reading_record, holder->record, RECORD);
+    memcpy(reading_record, holder->record, RECORD_BYTES);
     happens(OWN_READINGS, 1);
     if (drive.position > end_of(&tape->history)) {
         happens(OWN_ABOVE_N, 1);
         answer = command_whole(reading_record, (struct bytes)SIX(READ, 0, LARGEST_BLOCK), read_bytes, LARGEST_BLOCK);
-        if (STORMTOGGLE_REFUSAL(answer) != 4)
+        if (STORMTOGGLE_REFUSAL(answer) != BY_DRIVE)
             read_differs(tape, drive.position, NULL, answer, reading_record);
     } else if (one_in(2)) {
         reads_meet_from(reading_record, tape, drive.position);

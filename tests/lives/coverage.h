@@ -62,20 +62,17 @@ static const char *const happening_names[HAPPENINGS] = {
 /* The house services stand behind the 256 operation codes. */
 enum { FRESH = 256, MOUNT, PROTECT, BLANK, CALL_KINDS };
 
+#define NAMED(code, name, ...) {code, name},
 static const struct {
     unsigned kind;
     const char *name;
 } calls_named[] = {
-    {TEST_UNIT_READY, "TEST UNIT READY"}, {REWIND, "REWIND"}, {REQUEST_SENSE, "REQUEST SENSE"},
-    {READ_BLOCK_LIMITS, "READ BLOCK LIMITS"}, {READ, "READ"}, {WRITE, "WRITE"}, {WRITE_FILEMARKS, "WRITE FILEMARKS"},
-    {SPACE, "SPACE"}, {MODE_SELECT, "MODE SELECT"}, {ERASE, "ERASE"}, {MODE_SENSE, "MODE SENSE"},
-    {LOAD_UNLOAD, "LOAD UNLOAD"}, {LOCATE, "LOCATE"}, {READ_POSITION, "READ POSITION"},
-    {FRESH, "fresh"}, {MOUNT, "mount"}, {PROTECT, "protect"},
+    SERVED(NAMED) {FRESH, "fresh"}, {MOUNT, "mount"}, {PROTECT, "protect"},
 };
 
 static struct {
     unsigned long lives, calls, wanted, mismatches;
-    unsigned long acted[CALL_KINDS], stopped[CALL_KINDS], refused[CALL_KINDS], refusals[8];
+    unsigned long acted[CALL_KINDS], stopped[CALL_KINDS], refused[CALL_KINDS], refusals[BY_MOST + 1];
     unsigned long times[HAPPENINGS];
 } reached;
 
@@ -115,7 +112,7 @@ static inline void report_calls(void)
                kind < FRESH ? shown(reached.stopped[kind]) : 0, shown(reached.refused[kind]));
     }
     printf("refused by number");
-    for (int number = 1; number < 8; number++)
+    for (int number = 1; number <= BY_MOST; number++)
         printf("%s %d %lu", number == 1 ? "" : ",", number, shown(reached.refusals[number]));
     printf("\n");
 }

@@ -25,13 +25,13 @@ static uint8_t image_before[1 << 18];
 
 static inline void set_objects(const struct moment *was, uint32_t objects)
 {
-    lay_trailer(was->image, was->length, objects, get_field(was->image, was->length, FLAGS));
+    lay_trailer(was->image, was->length, objects, get_field(was->image, was->length, TRAILER_FLAGS));
 }
 
 /* After a WRITE or WRITE FILEMARKS that acted: so far has the position moved. */
 static inline void spoil_put(const struct moment *was, const uint8_t *record, const uint8_t *command)
 {
-    uint32_t now = get32(record + 4), put = now - was->drive.position;
+    uint32_t now = get32(record + STORMTOGGLE_RECORD_POSITION), put = now - was->drive.position;
     int many = command[0] == WRITE_FILEMARKS || command[1] & FIXED;
     if (FAULT == 1 && put > 0 && now < was->objects) {
         set_objects(was, was->objects);
@@ -42,7 +42,7 @@ static inline void spoil_put(const struct moment *was, const uint8_t *record, co
         set_objects(was, now - 1);
     if (FAULT == 6 && put > 0 && command[0] == WRITE)
         was->image[end_at(was->image, was->length, now) - 1] ^= 0x01;
-    if (FAULT == 7 && put == 0 && condition_of(record + 12) == VOLUME_OVERFLOW)
+    if (FAULT == 7 && put == 0 && told_by(record + STORMTOGGLE_RECORD_SENSE) == TOLD_OVERFLOW)
         set_objects(was, now);
 }
 
@@ -54,7 +54,7 @@ static inline void spoil_erase(const struct moment *was, uint8_t *record, const 
         set_objects(was, was->drive.position + 1);
     }
     if (FAULT == 8)
-        put32(record + 4, was->drive.position + 1);
+        put32(record + STORMTOGGLE_RECORD_POSITION, was->drive.position + 1);
     if (FAULT == 10 && command[1] & LONG && end > 0)
         was->image[end - 1] = 0;
 }
@@ -62,29 +62,31 @@ static inline void spoil_erase(const struct moment *was, uint8_t *record, const 
 /* The target is the other partition, whose N the old position must not exceed. */
 static inline void spoil_locate(const struct moment *was, uint8_t *record, const uint8_t *command, uint32_t objects)
 {
-    if (FAULT == 5 && get32(command + 3) == 0 && record[2] != was->drive.current && was->drive.position <= objects)
-        put32(record + 4, was->drive.position);
+    int is_other = record[STORMTOGGLE_RECORD_CURRENT] != was->drive.current;
+    if (FAULT == 5 && get32(command + AT_OBJECT) == 0 && is_other && was->drive.position <= objects)
+        put32(record + STORMTOGGLE_RECORD_POSITION, was->drive.position);
 }
 
 static inline void spoil_read(const struct moment *was, uint8_t *record)
 {
-    uint32_t now = get32(record + 4);
+    uint32_t now = get32(record + STORMTOGGLE_RECORD_POSITION);
     if (FAULT == 9 && now < was->objects)
-        put32(record + 4, now + 1);
+        put32(record + STORMTOGGLE_RECORD_POSITION, now + 1);
 }
 
 static inline void spoil(const struct moment *was, uint64_t answer, uint8_t *record, const uint8_t *command,
                          uint32_t objects_there)
 {
-    uint32_t told = STORMTOGGLE_STATUS(answer) == 0 ? GOOD : condition_of(record + 12);
+    int is_good = STORMTOGGLE_STATUS(answer) == STORMTOGGLE_GOOD;
+    uint32_t told = is_good ? TOLD_GOOD : told_by(record + STORMTOGGLE_RECORD_SENSE);
     if (command[0] == WRITE || command[0] == WRITE_FILEMARKS) {
-        if (told == GOOD || told == EARLY_WARNING || told == VOLUME_OVERFLOW)
+        if (told == TOLD_GOOD || told == TOLD_ZONE || told == TOLD_OVERFLOW)
             spoil_put(was, record, command);
-    } else if (command[0] == ERASE && told == GOOD) {
+    } else if (command[0] == ERASE && told == TOLD_GOOD) {
         spoil_erase(was, record, command);
-    } else if (command[0] == LOCATE && told == GOOD) {
+    } else if (command[0] == LOCATE && told == TOLD_GOOD) {
         spoil_locate(was, record, command, objects_there);
-    } else if (command[0] == READ && told == FILEMARK_DETECTED) {
+    } else if (command[0] == READ && told == TOLD_FILEMARK) {
         spoil_read(was, record);
     }
 }
@@ -95,18 +97,18 @@ static inline uint64_t command_service(uint8_t *record, size_t record_len, const
 {
     struct moment was = {.length = 0};
     uint64_t answer;
-    if (FAULT != 0 && record_len == RECORD && record[0] == 1) {
-        was = (struct moment){drive_of(record), record[2] == 1 ? p1 : p0, record[2] == 1 ? p1_len : p0_len, 0};
-        was.objects = was.length < SHORTEST ? 0 : get_field(was.image, was.length, OBJECTS);
+    if (FAULT != 0 && record_len == RECORD_BYTES && record[STORMTOGGLE_RECORD_LOADED] == 1) {
+        int second = record[STORMTOGGLE_RECORD_CURRENT] == 1;
+        was = (struct moment){drive_of(record), second ? p1 : p0, second ? p1_len : p0_len, 0};
+        was.objects = was.length < SHORTEST ? 0 : get_field(was.image, was.length, TRAILER_N);
         if (FAULT == 2 && command_len > 0 && command[0] == ERASE && was.length >= SHORTEST)
             memcpy(image_before, was.image, was.length);
     }
     answer = stormtoggle_command(record, record_len, command, command_len, p0, p0_len, p1, p1_len, sent, sent_len,
                                  received, received_len);
     if (FAULT != 0 && STORMTOGGLE_REFUSAL(answer) == 0 && was.length > 0) {
-        const uint8_t *there = record[2] == 1 ? p1 : p0;
-        size_t there_len = record[2] == 1 ? p1_len : p0_len;
-        spoil(&was, answer, record, command, get_field(there, there_len, OBJECTS));
+        int second = record[STORMTOGGLE_RECORD_CURRENT] == 1;
+        spoil(&was, answer, record, command, get_field(second ? p1 : p0, second ? p1_len : p0_len, TRAILER_N));
     }
     return answer;
 }
@@ -114,8 +116,9 @@ static inline uint64_t command_service(uint8_t *record, size_t record_len, const
 static inline uint64_t protect_service(uint8_t *image, size_t image_len, uint64_t on)
 {
     uint64_t answer = stormtoggle_protect(image, image_len, on);
-    if (FAULT == 4 && answer == DONE && get_field(image, image_len, OBJECTS) > 0)
-        lay_trailer(image, image_len, get_field(image, image_len, OBJECTS) - 1, get_field(image, image_len, FLAGS));
+    uint32_t objects = answer == DONE ? get_field(image, image_len, TRAILER_N) : 0;
+    if (FAULT == 4 && objects > 0)
+        lay_trailer(image, image_len, objects - 1, get_field(image, image_len, TRAILER_FLAGS));
     return answer;
 }
 

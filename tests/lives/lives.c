@@ -9,9 +9,9 @@ static size_t likely_image_length(void)
 {
     uint32_t kind = draw(200);
     if (kind < 60)
-        return 64 + draw(64);
+        return SHORTEST + draw(64);
     if (kind < 130)
-        return 64 + draw(200);
+        return SHORTEST + draw(200);
     if (kind < 184)
         return 200 + draw(500);
     if (kind < 194)
@@ -34,7 +34,7 @@ static void begin_life(void)
     }
     for (int i = 0; i < HOLDERS; i++) {
         lend_record(&holders[i]);
-        stormtoggle_fresh(holders[i].record, RECORD);
+        stormtoggle_fresh(holders[i].record, RECORD_BYTES);
     }
     make_odd();
     receive_room = lend(noise, RECEIVE_ROOM);

@@ -95,7 +95,7 @@ struct writing {
 
 static inline struct writing writing_of(const uint8_t *block, uint32_t block_length)
 {
-    uint32_t request = get32(block + 1) & 0xffffff;
+    uint32_t request = get32(block + AT_COUNT - 1) & COUNT_MOST;
     if (block[0] == WRITE_FILEMARKS)
         return (struct writing){PUT_FILEMARK, request, request, 0, 0};
     if (block[1] & FIXED)
@@ -106,10 +106,12 @@ static inline struct writing writing_of(const uint8_t *block, uint32_t block_len
 /* GOOD says all. Early warning does too, by its residue of 0; overflow has the residue of what was not put. */
 static inline uint32_t told_by_residue(const struct writing *writing, uint64_t answer, const uint8_t *sense)
 {
-    uint32_t left = get32(sense + 3);
-    if (STORMTOGGLE_STATUS(answer) == 0)
+    uint32_t left = get32(sense + STORMTOGGLE_SENSE_INFORMATION);
+    if (STORMTOGGLE_STATUS(answer) == STORMTOGGLE_GOOD)
         return writing->objects;
-    if (sense[0] != SENSE_VALID || left > writing->request || (condition_of(sense) == EARLY_WARNING) != (left == 0))
+    if (sense[STORMTOGGLE_SENSE_FIRST] != STORMTOGGLE_VALID || left > writing->request)
+        return UNTOLD;
+    if ((told_by(sense) == TOLD_ZONE) != (left == 0))
         return UNTOLD;
     if (!writing->is_variable)
         return writing->request - left;
@@ -148,7 +150,7 @@ static inline void count_writing(const struct writing *writing, uint32_t put)
     happens(LARGEST_PUT, put > 0 && writing->size == LARGEST_BLOCK);
     happens(FIXED_PUT, put > 1 && writing->kind == PUT_BLOCK);
     happens(FILEMARKS_PUT, put > 0 && writing->kind == PUT_FILEMARK);
-    happens(ALL_IN_THE_ZONE, put == writing->objects && STORMTOGGLE_STATUS(latest.answer) != 0);
+    happens(ALL_IN_THE_ZONE, put == writing->objects && STORMTOGGLE_STATUS(latest.answer) != STORMTOGGLE_GOOD);
     happens(PARTLY_PUT, put > 0 && put < writing->objects);
     happens(NONE_FITTED, put == 0 && writing->objects > 0);
     happens(NONE_ASKED, writing->objects == 0);
@@ -176,8 +178,8 @@ static inline void follow_write(struct tape *tape, const uint8_t *record)
 {
     struct writing writing = writing_of(latest.block.at, latest.before.block_length);
     struct drive after = drive_of(record);
-    uint32_t condition = condition_of(after.sense), by_residue, by_bytes, by_position;
-    if (STORMTOGGLE_STATUS(latest.answer) != 0 && condition != EARLY_WARNING && condition != VOLUME_OVERFLOW)
+    uint32_t told = told_by(after.sense), by_residue, by_bytes, by_position;
+    if (STORMTOGGLE_STATUS(latest.answer) != STORMTOGGLE_GOOD && told != TOLD_ZONE && told != TOLD_OVERFLOW)
         return;
     by_residue = told_by_residue(&writing, latest.answer, after.sense);
     by_bytes = told_by_bytes(&writing, latest.answer, by_residue);
@@ -192,7 +194,7 @@ static inline void follow_write(struct tape *tape, const uint8_t *record)
 static inline void follow_erase(struct tape *tape)
 {
     uint32_t from = latest.before.position;
-    if (STORMTOGGLE_STATUS(latest.answer) != 0)
+    if (STORMTOGGLE_STATUS(latest.answer) != STORMTOGGLE_GOOD)
         return;
     count_change(tape);
     if (!is_ours(tape))

@@ -23,10 +23,10 @@ static inline void look(const struct holder *by, struct loan loan)
     seen.is_long = tape != NULL && is_long(tape);
     if (tape == NULL || !sound(tape->image, tape->length))
         return;
-    seen.objects = get_field(tape->image, tape->length, OBJECTS);
+    seen.objects = get_field(tape->image, tape->length, TRAILER_N);
     if (seen.position > seen.objects)
         seen.position = seen.objects;
-    seen.room = tape->length - TRAILER - 4 * (uint64_t)seen.position;
+    seen.room = tape->length - TRAILER - ENTRY * (uint64_t)seen.position;
     seen.room -= end_at(tape->image, tape->length, seen.position);
 }
 
@@ -36,13 +36,13 @@ static inline void look(const struct holder *by, struct loan loan)
 static inline uint64_t write_length(void)
 {
     switch (draw(14)) {
-    case 0: return near(less(seen.room, 4));
+    case 0: return near(less(seen.room, ENTRY));
     case 1: return draw(seen.room + 8);
     case 2: return one_in(3) ? 0 : near(LARGEST_BLOCK);
     case 3: case 4: return draw(seen.room / 3 + 2);
     case 5: return seen.block_length;
     case 6: case 7: return !seen.is_long ? 1 + draw(4) : one_in(2) ? LARGEST_BLOCK : 1 + draw(LARGEST_BLOCK);
-    case 8: return one_in(4) ? draw(1 << 24) : 1;
+    case 8: return one_in(4) ? draw(1 << COUNT_BITS) : 1;
     default: return 1 + draw(16);
     }
 }
@@ -52,7 +52,7 @@ static inline uint64_t object_count(uint64_t each)
 {
     switch (draw(16)) {
     case 0: return one_in(2) ? near(seen.room / each) : draw(seen.room / each + 2);
-    case 1: return one_in(4) ? draw(1 << 24) : 0;
+    case 1: return one_in(4) ? draw(1 << COUNT_BITS) : 0;
     default: return 1 + draw(4);
     }
 }
@@ -60,7 +60,7 @@ static inline uint64_t object_count(uint64_t each)
 static inline uint64_t read_length(int fixed)
 {
     if (one_in(30))
-        return draw(1 << 24);
+        return draw(1 << COUNT_BITS);
     return fixed ? draw(5) : one_in(3) ? LARGEST_BLOCK : draw(40);
 }
 
@@ -71,22 +71,22 @@ static uint8_t mode_list[256]; /* what MODE SELECT sends */
 static inline void set_count(uint64_t count)
 {
     uint8_t *block = latest.block.at;
-    put32(block + 1, (uint32_t)block[1] << 24 | (uint32_t)(count & 0xffffff));
+    put32(block + AT_COUNT - 1, (uint32_t)block[AT_COUNT - 1] << COUNT_BITS | (uint32_t)(count & COUNT_MOST));
 }
 
 static inline void set_mode_select(void)
 {
-    static const uint32_t lengths[] = {0, 0, 1, 2, 3, 4, 7, 12, 30, 100, 512, 65536, 65537};
+    static const uint32_t lengths[] = {0, 0, 1, 2, 3, 4, 7, 12, 30, 100, 512, LARGEST_BLOCK, LARGEST_BLOCK + 1};
     uint32_t length = seen.is_long && one_in(2) ? LARGEST_BLOCK - draw(3) : lengths[draw(COUNT(lengths))];
     uint8_t *block = latest.block.at;
     block[1] = one_in(20) ? 0 : PF;
-    block[4] = (uint8_t)(one_in(12) ? draw(256) : one_in(8) ? 4 : 12);
+    block[AT_ALLOCATION] = (uint8_t)(one_in(12) ? draw(256) : one_in(8) ? MODE_HEADER : MODE_BYTES);
     memset(mode_list, 0, sizeof mode_list);
     mode_list[0] = (uint8_t)draw(256);
-    mode_list[3] = block[4] == 12 ? 8 : 0;
-    put32(mode_list + 8, length);
+    mode_list[AT_DESCRIPTOR] = block[AT_ALLOCATION] == MODE_BYTES ? MODE_DESCRIPTOR : 0;
+    put32(mode_list + AT_BLOCK_LENGTH - 1, length);
     if (one_in(12))
-        mode_list[draw(12)] ^= (uint8_t)(1 << draw(8));
+        mode_list[draw(MODE_BYTES)] ^= (uint8_t)(1 << draw(8));
 }
 
 static inline void set_locate(void)
@@ -94,8 +94,8 @@ static inline void set_locate(void)
     uint8_t *block = latest.block.at;
     uint64_t object = one_in(4) ? near(seen.objects) : draw(seen.objects + 1);
     block[1] = (uint8_t)(draw(2) | (one_in(3) ? CP : 0));
-    put32(block + 3, (uint32_t)(one_in(12) ? draw_64() : object));
-    block[8] = (uint8_t)(one_in(12) ? draw(256) : draw(2));
+    put32(block + AT_OBJECT, (uint32_t)(one_in(12) ? draw_64() : object));
+    block[AT_PARTITION] = (uint8_t)(one_in(12) ? draw(256) : draw(2));
 }
 
 /* A mostly lawful block of a served code; all else of it is 0. */
@@ -107,26 +107,26 @@ static inline void set_block(uint8_t code)
     block[0] = code;
     switch (code) {
     case REWIND: block[1] = (uint8_t)draw(2); break;
-    case REQUEST_SENSE: block[4] = (uint8_t)draw(40); break;
+    case REQUEST_SENSE: block[AT_ALLOCATION] = (uint8_t)draw(40); break;
     case READ:
         block[1] = (uint8_t)(fixed ? FIXED : one_in(3) ? SILI : 0);
         set_count(read_length(fixed));
         break;
     case WRITE:
         block[1] = (uint8_t)(fixed ? FIXED : 0);
-        set_count(fixed ? object_count(seen.block_length + 4) : write_length());
+        set_count(fixed ? object_count(seen.block_length + ENTRY) : write_length());
         break;
-    case WRITE_FILEMARKS: set_count(object_count(4)); break;
+    case WRITE_FILEMARKS: set_count(object_count(ENTRY)); break;
     case SPACE:
         block[1] = (uint8_t)(one_in(20) ? draw(16) : one_in(8) ? TO_END_OF_DATA : draw(2));
         set_count(one_in(12) ? draw_64() : draw(15) - UINT64_C(7));
         break;
     case MODE_SELECT: set_mode_select(); break;
     case ERASE: block[1] = (uint8_t)draw(4); break;
-    case MODE_SENSE: block[4] = (uint8_t)draw(16); break;
-    case LOAD_UNLOAD: block[4] = !one_in(2); break;
+    case MODE_SENSE: block[AT_ALLOCATION] = (uint8_t)draw(16); break;
+    case LOAD_UNLOAD: block[AT_LOAD] = one_in(2) ? 0 : LOAD; break;
     case LOCATE: set_locate(); break;
-    case READ_POSITION: block[1] = (uint8_t)(draw(2) * 6); break;
+    case READ_POSITION: block[1] = draw(2) == 0 ? FORM_SHORT : FORM_LONG; break;
     default: break;
     }
 }
@@ -150,8 +150,7 @@ static inline void keep_few(void)
     uint8_t *block = latest.block.at;
     if (!seen.is_long || (block[0] != WRITE_FILEMARKS && (block[0] != WRITE || !(block[1] & FIXED))))
         return;
-    block[2] = block[3] = 0;
-    block[4] &= 7;
+    set_count(block[AT_COUNT + 2] & 7);
 }
 
 /* Mostly as it should be; at times a bit is turned, bytes are random, a code is not served, or the block is short. */
@@ -160,12 +159,12 @@ static inline void set_any_block(void)
     struct bytes *block = &latest.block;
     set_block(likely_code());
     if (one_in(40))
-        block->at[draw(10)] ^= (uint8_t)(1 << draw(8));
+        block->at[draw(BYTES_10)] ^= (uint8_t)(1 << draw(8));
     if (one_in(60))
         memcpy(block->at + one_in(2), some_noise(20), 20);
     if (one_in(80))
         block->at[0] = (uint8_t)draw(256);
-    block->length = block->at[0] < 0x20 ? 6 : block->at[0] < 0x60 ? 10 : 16;
+    block->length = block->at[0] < CODES_OF_10 ? BYTES_6 : block->at[0] < CODES_OF_NONE ? BYTES_10 : BYTES_16;
     if (one_in(50))
         block->length = draw(block->length);
     else if (one_in(10))
@@ -181,7 +180,7 @@ static uint8_t *receive_room; /* between canaries; what is lent of it is its end
 static inline uint64_t bytes_asked(void)
 {
     const uint8_t *block = latest.block.at;
-    uint64_t count = get32(block + 1) & 0xffffff;
+    uint64_t count = get32(block + AT_COUNT - 1) & COUNT_MOST;
     return block[1] & FIXED ? count * seen.block_length : count;
 }
 
@@ -198,7 +197,8 @@ static inline void set_data(void)
 {
     uint8_t code = latest.block.at[0];
     size_t room = likely_length(code == READ ? bytes_asked() : 40, RECEIVE_ROOM);
-    size_t length = likely_length(code == WRITE ? bytes_asked() : code == MODE_SELECT ? latest.block.at[4] : 0, NOISE);
+    uint64_t listed = code == MODE_SELECT ? latest.block.at[AT_ALLOCATION] : 0;
+    size_t length = likely_length(code == WRITE ? bytes_asked() : listed, NOISE);
     latest.sent = (struct slice){some_noise(length), length};
     if (code == MODE_SELECT)
         latest.sent = (struct slice){mode_list, length < sizeof mode_list ? length : sizeof mode_list};
@@ -220,7 +220,7 @@ static inline void likely_command(struct holder *by)
 /* Of the whole cartridge, seldom of less; at times with slices that are cut, so that it is refused. */
 static inline void likely_mount(struct holder *by)
 {
-    size_t most = one_in(12) ? draw(64) : one_in(20) ? 64 + draw(200) : SIZE_MAX;
+    size_t most = one_in(12) ? draw(SHORTEST) : one_in(20) ? SHORTEST + draw(200) : SIZE_MAX;
     call_mount(by, one_in(5) ? partial_loan() : whole_cartridge(), most);
 }
 
@@ -229,7 +229,7 @@ static inline void likely_protect(void)
 {
     static const uint64_t numbers[] = {1, 1, 2, 256, BEYOND_32_BITS, UINT64_MAX};
     struct tape *tape = one_in(10) ? &foreign[draw(2)] : &ours[draw(partitions)];
-    size_t length = one_in(8) ? draw(64) : one_in(12) ? tape->length - 1 : tape->length;
+    size_t length = one_in(8) ? draw(SHORTEST) : one_in(12) ? tape->length - 1 : tape->length;
     call_protect(tape, length, one_in(2) ? 0 : numbers[draw(COUNT(numbers))]);
 }
 
