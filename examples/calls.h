@@ -104,9 +104,15 @@ enum {
     SPACE = 0x11, MODE_SELECT = 0x15, LOAD_UNLOAD = 0x1b, LOCATE = 0x2b, READ_POSITION = 0x34
 };
 
+/* Command blocks have six bytes, LOCATE's and READ POSITION's ten. */
+enum { SIX = 6, TEN = 10 };
+
 /* Byte 1 of a command block. */
 enum { FIXED = 0x01, CHANGE_PARTITION = 0x02, LONG_FORM = 0x06, PAGE_FORMAT = 0x10 };
 enum space_code { BLOCKS = 0, FILEMARKS = 1, TO_END_OF_DATA = 3 };
+
+/* MODE SELECT's list: the lengths of its two parts. */
+enum { HEADER = 4, DESCRIPTOR = 8 };
 
 #define BYTE(number, shift) ((uint8_t)((uint32_t)(number) >> (shift)))
 #define THREE_BYTES(number) BYTE(number, 16), BYTE(number, 8), BYTE(number, 0)
@@ -133,14 +139,14 @@ static inline void carry_out(struct drive *d, const uint8_t *command, size_t len
 
 static inline void test_unit_ready(struct drive *d)
 {
-    const uint8_t command[6] = {TEST_UNIT_READY};
+    const uint8_t command[SIX] = {TEST_UNIT_READY};
     ask(d, "TEST UNIT READY");
     carry_out(d, command, sizeof command, NO_DATA);
 }
 
 static inline void request_sense(struct drive *d, uint8_t sense[STORMTOGGLE_SENSE_LENGTH])
 {
-    const uint8_t command[6] = {REQUEST_SENSE, 0, 0, 0, STORMTOGGLE_SENSE_LENGTH};
+    const uint8_t command[SIX] = {REQUEST_SENSE, 0, 0, 0, STORMTOGGLE_SENSE_LENGTH};
     ask(d, "REQUEST SENSE");
     carry_out(d, command, sizeof command, RECEIVE(sense, STORMTOGGLE_SENSE_LENGTH));
     if (STORMTOGGLE_CARRIED(d->answer) < STORMTOGGLE_SENSE_LENGTH)
@@ -152,21 +158,21 @@ static inline void request_sense(struct drive *d, uint8_t sense[STORMTOGGLE_SENS
 
 static inline void rewind_tape(struct drive *d)
 {
-    const uint8_t command[6] = {REWIND};
+    const uint8_t command[SIX] = {REWIND};
     ask(d, "REWIND");
     carry_out(d, command, sizeof command, NO_DATA);
 }
 
 static inline void read_block(struct drive *d, uint8_t *bytes, uint32_t length)
 {
-    const uint8_t command[6] = {READ, 0, THREE_BYTES(length)};
+    const uint8_t command[SIX] = {READ, 0, THREE_BYTES(length)};
     ask(d, "READ %u bytes", (unsigned)length);
     carry_out(d, command, sizeof command, RECEIVE(bytes, length));
 }
 
 static inline void write_block(struct drive *d, const uint8_t *bytes, uint32_t length)
 {
-    const uint8_t command[6] = {WRITE, 0, THREE_BYTES(length)};
+    const uint8_t command[SIX] = {WRITE, 0, THREE_BYTES(length)};
     ask(d, "WRITE %u bytes", (unsigned)length);
     carry_out(d, command, sizeof command, SEND(bytes, length));
 }
@@ -174,7 +180,7 @@ static inline void write_block(struct drive *d, const uint8_t *bytes, uint32_t l
 /* Many blocks of the length that is set, which the record tells. */
 static inline void write_fixed(struct drive *d, const uint8_t *bytes, uint32_t count)
 {
-    const uint8_t command[6] = {WRITE, FIXED, THREE_BYTES(count)};
+    const uint8_t command[SIX] = {WRITE, FIXED, THREE_BYTES(count)};
     size_t block_length = number_at(d->record + STORMTOGGLE_RECORD_BLOCK_LENGTH);
     ask(d, "WRITE FIXED %u blocks", (unsigned)count);
     carry_out(d, command, sizeof command, SEND(bytes, count * block_length));
@@ -182,7 +188,7 @@ static inline void write_fixed(struct drive *d, const uint8_t *bytes, uint32_t c
 
 static inline void write_filemarks(struct drive *d, uint32_t count)
 {
-    const uint8_t command[6] = {WRITE_FILEMARKS, 0, THREE_BYTES(count)};
+    const uint8_t command[SIX] = {WRITE_FILEMARKS, 0, THREE_BYTES(count)};
     ask(d, "WRITE FILEMARKS %u", (unsigned)count);
     carry_out(d, command, sizeof command, NO_DATA);
 }
@@ -190,7 +196,7 @@ static inline void write_filemarks(struct drive *d, uint32_t count)
 /* A count below 0 goes back; its three bytes are two's complement. */
 static inline void space(struct drive *d, enum space_code code, int count)
 {
-    const uint8_t command[6] = {SPACE, (uint8_t)code, THREE_BYTES(count)};
+    const uint8_t command[SIX] = {SPACE, (uint8_t)code, THREE_BYTES(count)};
     if (code == TO_END_OF_DATA)
         ask(d, "SPACE to end of data");
     else
@@ -200,15 +206,15 @@ static inline void space(struct drive *d, enum space_code code, int count)
 
 static inline void locate(struct drive *d, uint8_t partition, uint32_t object)
 {
-    const uint8_t command[10] = {LOCATE, CHANGE_PARTITION, 0, FOUR_BYTES(object), 0, partition};
+    const uint8_t command[TEN] = {LOCATE, CHANGE_PARTITION, 0, FOUR_BYTES(object), 0, partition};
     ask(d, "LOCATE partition %u, object %u", partition, (unsigned)object);
     carry_out(d, command, sizeof command, NO_DATA);
 }
 
-/* The long form is 32 bytes. A buffer that cannot hold them is refused, and gets none. */
+/* A buffer that cannot hold the long form is refused, and gets none of it. */
 static inline void read_position(struct drive *d, uint8_t *bytes, size_t length)
 {
-    const uint8_t command[10] = {READ_POSITION, LONG_FORM};
+    const uint8_t command[TEN] = {READ_POSITION, LONG_FORM};
     ask(d, "READ POSITION into %zu bytes", length);
     carry_out(d, command, sizeof command, RECEIVE(bytes, length));
     if (STORMTOGGLE_CARRIED(d->answer) == 0)
@@ -218,18 +224,18 @@ static inline void read_position(struct drive *d, uint8_t *bytes, size_t length)
     printf("\n");
 }
 
-/* The list is a header, which says that a descriptor of 8 bytes follows, and the descriptor, which sets the length. */
+/* The list is a header, which says how long the descriptor behind it is, and the descriptor, which sets the length. */
 static inline void set_block_length(struct drive *d, uint32_t length)
 {
-    const uint8_t list[12] = {0, 0, 0, 8, 0, 0, 0, 0, 0, THREE_BYTES(length)};
-    const uint8_t command[6] = {MODE_SELECT, PAGE_FORMAT, 0, 0, sizeof list};
+    const uint8_t list[HEADER + DESCRIPTOR] = {0, 0, 0, DESCRIPTOR, 0, 0, 0, 0, 0, THREE_BYTES(length)};
+    const uint8_t command[SIX] = {MODE_SELECT, PAGE_FORMAT, 0, 0, sizeof list};
     ask(d, "MODE SELECT block length %u", (unsigned)length);
     carry_out(d, command, sizeof command, SEND(list, sizeof list));
 }
 
 static inline void unload(struct drive *d)
 {
-    const uint8_t command[6] = {LOAD_UNLOAD};
+    const uint8_t command[SIX] = {LOAD_UNLOAD};
     ask(d, "LOAD UNLOAD, unload");
     carry_out(d, command, sizeof command, NO_DATA);
 }

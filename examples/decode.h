@@ -1,76 +1,109 @@
-/* decode.h: what a service answered, in words: refusals, status, sense and its residue. Part of facility.c. */
+/* decode.h: what a service answered, in words: refusals, status, sense and its residue. Part of facility.c. The numbers
+ * of an answer, the record and the sense are the public header's; the keys and codes that a drive tells stand here. */
 #ifndef DECODE_H
 #define DECODE_H
 
 #include "stormtoggle.h"
 #include <stdio.h>
 
-/* Why a command ended in CHECK CONDITION, as one number to compare: byte 2 of the sense (flags and key), ASC, ASCQ. */
-enum condition {
-    GOOD = 0x000000,
-    FILEMARK_DETECTED = 0x800001,
-    EARLY_WARNING = 0x400002,
-    BEGINNING_OF_PARTITION = 0x400004,
-    WRONG_LENGTH = 0x200000,
-    MEDIUM_NOT_PRESENT = 0x023a00,
-    MEDIUM_CHANGED = 0x062800,
-    POWER_ON = 0x062900,
-    WRITE_PROTECTED = 0x072700,
-    END_OF_DATA = 0x080005,
-    VOLUME_OVERFLOW = 0x4d0002
+/* The sense keys, and ASC with ASCQ as one number. */
+enum sense_key {
+    NO_SENSE = 0x0,
+    NOT_READY = 0x2,
+    ILLEGAL_REQUEST = 0x5,
+    UNIT_ATTENTION = 0x6,
+    DATA_PROTECT = 0x7,
+    BLANK_CHECK = 0x8,
+    VOLUME_OVERFLOW = 0xd
+};
+enum sense_code {
+    NO_ADDITIONAL_SENSE = 0x0000,
+    AT_FILEMARK = 0x0001,
+    AT_END_OF_PARTITION = 0x0002,
+    AT_BEGINNING = 0x0004,
+    AT_END_OF_DATA = 0x0005,
+    LIST_LENGTH_ERROR = 0x1a00,
+    INVALID_OPERATION_CODE = 0x2000,
+    INVALID_FIELD = 0x2400,
+    INVALID_LIST = 0x2600,
+    PROTECTED = 0x2700,
+    MAY_HAVE_CHANGED = 0x2800,
+    RESET_OCCURRED = 0x2900,
+    NOT_PRESENT = 0x3a00
 };
 
-enum { SENSE_VALID = 0xf0, SENSE_FILEMARK = 0x80, SENSE_EOM = 0x40, SENSE_ILI = 0x20, SENSE_KEY = 0x0f };
-enum { POSITION_BEGINNING = 0x80, POSITION_WARNING = 0x40 };
+/* Why a command ended in CHECK CONDITION, as one number to compare: byte 2 of the sense (flags and key), ASC, ASCQ. */
+#define CONDITION(flags_and_key, code) ((flags_and_key) << 16 | (code))
+enum condition {
+    GOOD = CONDITION(NO_SENSE, NO_ADDITIONAL_SENSE),
+    FILEMARK_DETECTED = CONDITION(STORMTOGGLE_FILEMARK | NO_SENSE, AT_FILEMARK),
+    EARLY_WARNING = CONDITION(STORMTOGGLE_EOM | NO_SENSE, AT_END_OF_PARTITION),
+    BEGINNING_OF_PARTITION = CONDITION(STORMTOGGLE_EOM | NO_SENSE, AT_BEGINNING),
+    WRONG_LENGTH = CONDITION(STORMTOGGLE_ILI | NO_SENSE, NO_ADDITIONAL_SENSE),
+    MEDIUM_NOT_PRESENT = CONDITION(NOT_READY, NOT_PRESENT),
+    MEDIUM_CHANGED = CONDITION(UNIT_ATTENTION, MAY_HAVE_CHANGED),
+    POWER_ON = CONDITION(UNIT_ATTENTION, RESET_OCCURRED),
+    WRITE_PROTECTED = CONDITION(DATA_PROTECT, PROTECTED),
+    END_OF_DATA = CONDITION(BLANK_CHECK, AT_END_OF_DATA),
+    NOT_ALL_WRITTEN = CONDITION(STORMTOGGLE_EOM | VOLUME_OVERFLOW, AT_END_OF_PARTITION)
+};
+
+/* READ POSITION's long form: its length, its bits of byte 0, and the low 4 bytes of each of its numbers. */
+enum { POSITION_LENGTH = 32, POSITION_BEGINNING = 0x80, POSITION_WARNING = 0x40 };
+enum { POSITION_PARTITION = 4, POSITION_OBJECT = 12, POSITION_FILEMARKS = 20 };
 
 static inline uint32_t number_at(const uint8_t *at)
 {
     return (uint32_t)at[0] << 24 | (uint32_t)at[1] << 16 | (uint32_t)at[2] << 8 | at[3];
 }
 
+static inline unsigned code_of(const uint8_t *sense)
+{
+    return (unsigned)sense[STORMTOGGLE_SENSE_ASC] << 8 | sense[STORMTOGGLE_SENSE_ASCQ];
+}
+
 static inline uint32_t condition_of(const uint8_t *sense)
 {
-    return (uint32_t)sense[2] << 16 | (uint32_t)sense[12] << 8 | sense[13];
+    return CONDITION((uint32_t)sense[STORMTOGGLE_SENSE_KEY], code_of(sense));
 }
 
 /* The information is 32 bits in two's complement. Requests have 24 bits, so the sign is never in doubt. */
 static inline long residue_of(const uint8_t *sense)
 {
-    uint32_t information = number_at(sense + 3);
+    uint32_t information = number_at(sense + STORMTOGGLE_SENSE_INFORMATION);
     return information <= INT32_MAX ? (long)information : -(long)~information - 1;
 }
 
 static inline const char *key_in_words(unsigned key)
 {
     switch (key) {
-    case 0x0: return "NO SENSE";
-    case 0x2: return "NOT READY";
-    case 0x5: return "ILLEGAL REQUEST";
-    case 0x6: return "UNIT ATTENTION";
-    case 0x7: return "DATA PROTECT";
-    case 0x8: return "BLANK CHECK";
-    case 0xd: return "VOLUME OVERFLOW";
+    case NO_SENSE: return "NO SENSE";
+    case NOT_READY: return "NOT READY";
+    case ILLEGAL_REQUEST: return "ILLEGAL REQUEST";
+    case UNIT_ATTENTION: return "UNIT ATTENTION";
+    case DATA_PROTECT: return "DATA PROTECT";
+    case BLANK_CHECK: return "BLANK CHECK";
+    case VOLUME_OVERFLOW: return "VOLUME OVERFLOW";
     default: return "a key that the drive does not give";
     }
 }
 
-/* ASC in the high byte, ASCQ in the low one. */
 static inline const char *code_in_words(unsigned code)
 {
     switch (code) {
-    case 0x0000: return "no additional sense";
-    case 0x0001: return "filemark detected";
-    case 0x0002: return "end of partition detected";
-    case 0x0004: return "beginning of partition detected";
-    case 0x0005: return "end of data detected";
-    case 0x1a00: return "parameter list length error";
-    case 0x2000: return "invalid operation code";
-    case 0x2400: return "invalid field in command block";
-    case 0x2600: return "invalid field in parameter list";
-    case 0x2700: return "write protected";
-    case 0x2800: return "medium may have changed";
-    case 0x2900: return "power on or reset occurred";
-    case 0x3a00: return "medium not present";
+    case NO_ADDITIONAL_SENSE: return "no additional sense";
+    case AT_FILEMARK: return "filemark detected";
+    case AT_END_OF_PARTITION: return "end of partition detected";
+    case AT_BEGINNING: return "beginning of partition detected";
+    case AT_END_OF_DATA: return "end of data detected";
+    case LIST_LENGTH_ERROR: return "parameter list length error";
+    case INVALID_OPERATION_CODE: return "invalid operation code";
+    case INVALID_FIELD: return "invalid field in command block";
+    case INVALID_LIST: return "invalid field in parameter list";
+    case PROTECTED: return "write protected";
+    case MAY_HAVE_CHANGED: return "medium may have changed";
+    case RESET_OCCURRED: return "power on or reset occurred";
+    case NOT_PRESENT: return "medium not present";
     default: return "a code that the drive does not give";
     }
 }
@@ -78,13 +111,13 @@ static inline const char *code_in_words(unsigned code)
 static inline const char *refusal_in_words(unsigned refusal)
 {
     switch (refusal) {
-    case 1: return "the command block is too short";
-    case 2: return "too few bytes are sent";
-    case 3: return "the receiving buffer is too short";
-    case 4: return "record and partitions are not those of a drive";
-    case 5: return "a cartridge is loaded already";
-    case 6: return "an image is unsound";
-    case 7: return "an image is too short or too long";
+    case STORMTOGGLE_BY_COMMAND: return "the command block is too short";
+    case STORMTOGGLE_BY_SENT: return "too few bytes are sent";
+    case STORMTOGGLE_BY_RECEIVED: return "the receiving buffer is too short";
+    case STORMTOGGLE_BY_DRIVE: return "record and partitions are not those of a drive";
+    case STORMTOGGLE_BY_LOADED: return "a cartridge is loaded already";
+    case STORMTOGGLE_BY_UNSOUND: return "an image is unsound";
+    case STORMTOGGLE_BY_LENGTH: return "an image is too short or too long";
     default: return "a number that the drive does not give";
     }
 }
@@ -93,15 +126,16 @@ static inline const char *refusal_in_words(unsigned refusal)
 
 static inline int print_sense(FILE *to, const uint8_t *sense)
 {
-    int printed = fprintf(to, "%s %02X/%02X %s", key_in_words(sense[2] & SENSE_KEY), sense[12], sense[13],
-                          code_in_words((unsigned)sense[12] << 8 | sense[13]));
-    if (sense[2] & SENSE_FILEMARK)
+    uint8_t flags_and_key = sense[STORMTOGGLE_SENSE_KEY];
+    int printed = fprintf(to, "%s %02X/%02X %s", key_in_words(flags_and_key & STORMTOGGLE_KEY),
+                          sense[STORMTOGGLE_SENSE_ASC], sense[STORMTOGGLE_SENSE_ASCQ], code_in_words(code_of(sense)));
+    if (flags_and_key & STORMTOGGLE_FILEMARK)
         printed += fprintf(to, ", FILEMARK");
-    if (sense[2] & SENSE_EOM)
+    if (flags_and_key & STORMTOGGLE_EOM)
         printed += fprintf(to, ", EOM");
-    if (sense[2] & SENSE_ILI)
+    if (flags_and_key & STORMTOGGLE_ILI)
         printed += fprintf(to, ", ILI");
-    if (sense[0] == SENSE_VALID)
+    if (sense[STORMTOGGLE_SENSE_FIRST] == STORMTOGGLE_VALID)
         printed += fprintf(to, ", residue %ld", residue_of(sense));
     return printed;
 }
@@ -118,8 +152,8 @@ static inline int print_answer(FILE *to, uint64_t answer, const uint8_t *record)
 {
     if (STORMTOGGLE_REFUSAL(answer) != 0)
         return print_done(to, answer);
-    int printed = STORMTOGGLE_STATUS(answer) == 0 ? fprintf(to, "GOOD")
-                                                  : print_sense(to, record + STORMTOGGLE_RECORD_SENSE);
+    int is_good = STORMTOGGLE_STATUS(answer) == STORMTOGGLE_GOOD;
+    int printed = is_good ? fprintf(to, "GOOD") : print_sense(to, record + STORMTOGGLE_RECORD_SENSE);
     if (STORMTOGGLE_CARRIED(answer) > 0)
         printed += fprintf(to, ", %u bytes", (unsigned)STORMTOGGLE_CARRIED(answer));
     return printed;
@@ -128,8 +162,9 @@ static inline int print_answer(FILE *to, uint64_t answer, const uint8_t *record)
 /* READ POSITION's long form. Its numbers have 8 bytes, but none of the drive's needs more than the low 4. */
 static inline void print_position(FILE *to, const uint8_t *position)
 {
-    fprintf(to, "partition %u, object %u, filemarks before it %u", (unsigned)number_at(position + 4),
-            (unsigned)number_at(position + 12), (unsigned)number_at(position + 20));
+    unsigned partition = number_at(position + POSITION_PARTITION), object = number_at(position + POSITION_OBJECT);
+    unsigned filemarks = number_at(position + POSITION_FILEMARKS);
+    fprintf(to, "partition %u, object %u, filemarks before it %u", partition, object, filemarks);
     if (position[0] & POSITION_BEGINNING)
         fprintf(to, ", beginning of partition");
     if (position[0] & POSITION_WARNING)

@@ -17,7 +17,8 @@
 #include <unistd.h>
 
 /* The listing program takes 65,536 bytes at most. In as many, early warning comes one tile before the end. */
-enum { TILES = 0, INDEX = 1, TILES_LENGTH = 65536, INDEX_LENGTH = 64, TILE = 3840, CYCLES = 3, BATCH = 5 };
+enum { TILES = 0, INDEX = 1, TILES_LENGTH = 65536, INDEX_LENGTH = STORMTOGGLE_SHORTEST_IMAGE };
+enum { TILE = 3840, CYCLES = 3, BATCH = 5 };
 
 /* The index: how many tiles each cycle has. With a filemark after each cycle it tells where every tile stands. */
 static const uint8_t tiles_of[CYCLES] = {1, 2, 3};
@@ -65,7 +66,8 @@ static void expect(const struct drive *d, enum condition condition, long residue
 {
     const uint8_t *sense = d->record + STORMTOGGLE_RECORD_SENSE;
     expect_refusal(d, 0);
-    must_equal(d, "the status", STORMTOGGLE_STATUS(d->answer), condition == GOOD ? 0x00 : 0x02);
+    must_equal(d, "the status", STORMTOGGLE_STATUS(d->answer),
+               condition == GOOD ? STORMTOGGLE_GOOD : STORMTOGGLE_CHECK_CONDITION);
     must_equal(d, "the sense (byte 2, ASC, ASCQ)", condition_of(sense), condition);
     must_equal(d, "the residue", residue_of(sense), residue);
     must_equal(d, "the partition", d->record[STORMTOGGLE_RECORD_CURRENT], partition);
@@ -124,7 +126,7 @@ static void open_the_day(struct drive *d)
     mount(d);
     expect_refusal(d, 0);
     mount(d);
-    expect_refusal(d, 5);
+    expect_refusal(d, STORMTOGGLE_BY_LOADED);
     test_unit_ready(d);
     expect(d, MEDIUM_CHANGED, 0, TILES, 0);
     test_unit_ready(d);
@@ -212,7 +214,7 @@ static void write_batch(struct drive *d, unsigned first)
 /* At early warning all is written; at overflow the residue tells how many tiles are not. A filemark still fits. */
 static void fill(struct drive *d)
 {
-    uint8_t position[32];
+    uint8_t position[POSITION_LENGTH];
     puts("\nA fourth cycle, to early warning and on to volume overflow");
     set_block_length(d, TILE);
     expect_good(d, TILES, 4);
@@ -224,17 +226,17 @@ static void fill(struct drive *d)
     expect(d, EARLY_WARNING, 0, TILES, 19);
     expect_carried(d, BATCH * TILE);
     write_batch(d, 11);
-    expect(d, VOLUME_OVERFLOW, BATCH - 1, TILES, 20);
+    expect(d, NOT_ALL_WRITTEN, BATCH - 1, TILES, 20);
     expect_carried(d, TILE);
     write_filemarks(d, 1);
     expect(d, EARLY_WARNING, 0, TILES, 21);
     read_position(d, position, sizeof position - 1);
-    expect_refusal(d, 3);
+    expect_refusal(d, STORMTOGGLE_BY_RECEIVED);
     read_position(d, position, sizeof position);
     expect_good(d, TILES, 21);
     must_equal(d, "byte 0", position[0], POSITION_WARNING);
-    must_equal(d, "the object told", number_at(position + 12), 21);
-    must_equal(d, "the number of filemarks told", number_at(position + 20), CYCLES + 1);
+    must_equal(d, "the object told", number_at(position + POSITION_OBJECT), 21);
+    must_equal(d, "the number of filemarks told", number_at(position + POSITION_FILEMARKS), CYCLES + 1);
 }
 
 static void close_the_day(struct drive *d)
