@@ -25,7 +25,7 @@ struct image {
     size_t length;
 };
 
-/* n objects, each a block of so many bytes, but every k-th a filemark (none if k is 0), with room for `spare` bytes more. */
+/* n objects, each a block of so many bytes, but every k-th a filemark (none if k is 0), with `spare` bytes more. */
 static struct image make_image(uint32_t n, uint32_t bytes, uint32_t k, size_t spare)
 {
     struct image image;
@@ -37,11 +37,11 @@ static struct image make_image(uint32_t n, uint32_t bytes, uint32_t k, size_t sp
     for (uint32_t i = 0; i < n; i++) {
         int filemark = k != 0 && i % k == k - 1;
         end += filemark ? 0 : bytes;
-        put32(image.at + image.length - TRAILER - ENTRY * ((size_t)i + 1), end | (filemark ? 0x80000000u : 0));
+        put32(image.at + image.length - TRAILER - ENTRY * ((size_t)i + 1), end | (filemark ? ENTRY_FILEMARK : 0));
     }
-    put32(image.at + image.length - 16, n);
-    put32(image.at + image.length - 8, (uint32_t)(image.length - TRAILER - (size_t)ENTRY * n));
-    put32(image.at + image.length - 4, (uint32_t)image.length);
+    put32(image.at + image.length - TRAILER_N, n);
+    put32(image.at + image.length - TRAILER_D, (uint32_t)(image.length - TRAILER - (size_t)ENTRY * n));
+    put32(image.at + image.length - TRAILER_L, (uint32_t)image.length);
     return image;
 }
 
@@ -51,7 +51,7 @@ __attribute__((noinline)) static int plain_sound(const uint8_t *s, size_t length
 
 __attribute__((noinline)) static uint64_t plain_sum(const uint8_t *s, size_t length)
 {
-    uint32_t n = get32(s + length - 16);
+    uint32_t n = get32(s + length - TRAILER_N);
     uint64_t sum = 0;
     for (uint32_t i = 0; i < n; i++)
         sum += get32(s + length - TRAILER - ENTRY * ((size_t)i + 1));
@@ -60,21 +60,21 @@ __attribute__((noinline)) static uint64_t plain_sum(const uint8_t *s, size_t len
 
 __attribute__((noinline)) static uint32_t plain_filemarks(const uint8_t *s, size_t length, uint32_t asked)
 {
-    uint32_t n = get32(s + length - 16), i = 0;
+    uint32_t n = get32(s + length - TRAILER_N), i = 0;
     while (asked > 0 && i < n)
-        asked -= get32(s + length - TRAILER - ENTRY * ((size_t)++i)) >> 31;
+        asked -= (get32(s + length - TRAILER - ENTRY * ((size_t)++i)) & ENTRY_FILEMARK) != 0;
     return i;
 }
 
 /* ---- the drive */
 
-static uint8_t record[RECORD];
+static uint8_t record[RECORD_BYTES];
 
 static uint64_t command(const uint8_t *block, size_t length, struct image *p0, const uint8_t *sent, size_t sent_length,
                         uint8_t *received, size_t received_length)
 {
-    return stormtoggle_command(record, RECORD, block, length, p0->at, p0->length, NULL, 0, sent, sent_length, received,
-                               received_length);
+    return stormtoggle_command(record, RECORD_BYTES, block, length, p0->at, p0->length, NULL, 0, sent, sent_length,
+                               received, received_length);
 }
 
 static void put_position(uint32_t position)
@@ -84,10 +84,10 @@ static void put_position(uint32_t position)
 
 static void mount(struct image *image)
 {
-    stormtoggle_fresh(record, RECORD);
-    if (stormtoggle_mount(record, RECORD, image->at, image->length, NULL, 0) != 0)
+    stormtoggle_fresh(record, RECORD_BYTES);
+    if (stormtoggle_mount(record, RECORD_BYTES, image->at, image->length, NULL, 0) != 0)
         abort();
-    record[STORMTOGGLE_RECORD_ATTENTION] = 0;
+    record[STORMTOGGLE_RECORD_ATTENTION] = ATTENTION_NONE;
 }
 
 /* ---- what is timed: each does its work once */
@@ -101,28 +101,28 @@ static void sum_pass(void) { sink = plain_sum(image.at, image.length); }
 
 static void test_unit_ready(void)
 {
-    static const uint8_t block[6] = {0x00};
+    static const uint8_t block[BYTES_6] = {TEST_UNIT_READY};
     sink = command(block, sizeof block, &image, NULL, 0, NULL, 0);
 }
 
 static void read_tile(void)
 {
-    static const uint8_t block[6] = {0x08, 0, 0, 0x80, 0};
+    static const uint8_t block[BYTES_6] = {READ, 0, 0, 0x80, 0};
     put_position(10000);
     sink = command(block, sizeof block, &image, NULL, 0, tile, sizeof tile);
 }
 
 static void write_tile(void)
 {
-    static const uint8_t block[6] = {0x0a, 0, 0, 0x80, 0};
-    uint32_t n = get32(image.at + image.length - 16);
+    static const uint8_t block[BYTES_6] = {WRITE, 0, 0, 0x80, 0};
+    uint32_t n = get32(image.at + image.length - TRAILER_N);
     put_position(n - 1);
     sink = command(block, sizeof block, &image, tile, sizeof tile, NULL, 0);
 }
 
 static void write_256(void)
 {
-    static const uint8_t block[6] = {0x0a, 1, 0, 1, 0};
+    static const uint8_t block[BYTES_6] = {WRITE, FIXED, 0, 1, 0};
     put_position(0);
     sink = command(block, sizeof block, &image, blocks, (size_t)256 * TILE, NULL, 0);
 }
@@ -144,29 +144,29 @@ static void pass_and_copy_out(void)
 static void pass_and_copy_in(void)
 {
     ours_pass();
-    memcpy(image.at + (size_t)(get32(image.at + image.length - 16) - 1) * TILE, tile, sizeof tile);
+    memcpy(image.at + (size_t)(get32(image.at + image.length - TRAILER_N) - 1) * TILE, tile, sizeof tile);
     sink = image.at[sink % TILE];
 }
 
 static void space_filemarks(void)
 {
-    static const uint8_t block[6] = {0x11, 1, 0x01, 0x86, 0xa0};
+    static const uint8_t block[BYTES_6] = {SPACE, FILEMARKS, 0x01, 0x86, 0xa0};
     put_position(0);
     sink = command(block, sizeof block, &image, NULL, 0, NULL, 0);
 }
 
 static void plain_space(void) { sink = plain_filemarks(image.at, image.length, 100000); }
 
-/* A command without data, by the library or by plain C: called through a pointer, so that no compiler sees which or what. */
-typedef uint64_t service(uint8_t *, size_t, const uint8_t *, size_t, uint8_t *, size_t, uint8_t *, size_t, const uint8_t *,
-                         size_t, uint8_t *, size_t);
+/* A command without data, by the library or by plain C: called through a pointer, so that no compiler sees which. */
+typedef uint64_t service(uint8_t *, size_t, const uint8_t *, size_t, uint8_t *, size_t, uint8_t *, size_t,
+                         const uint8_t *, size_t, uint8_t *, size_t);
 static service *volatile library = stormtoggle_command, *volatile plain = plain_command;
-static uint8_t asked[10];
+static uint8_t asked[BYTES_10];
 static size_t asked_length;
 
 static void serve(service *by)
 {
-    sink = by(record, RECORD, asked, asked_length, image.at, image.length, NULL, 0, NULL, 0, tile, sizeof tile);
+    sink = by(record, RECORD_BYTES, asked, asked_length, image.at, image.length, NULL, 0, NULL, 0, tile, sizeof tile);
 }
 
 static void library_serves(void) { serve(library); }
@@ -182,8 +182,8 @@ static double spent(void (*work)(void), int repeat)
     return now() - began;
 }
 
-/* What each of some works took: the shortest of many rounds, each long enough for the clock. Their rounds take turns, so that a
- * busy machine slows all of them or none. */
+/* What each of some works took: the shortest of many rounds, each long enough for the clock. Their rounds take turns,
+ * so that a busy machine slows all of them or none. */
 static void took(int n, void (*const work[])(void), double best[])
 {
     int repeat[WORKS];
@@ -225,18 +225,18 @@ static void passes(uint32_t n, uint32_t k, const char *what)
 /* The same command by both, which must leave the same record, bytes and answer. */
 static void small(uint8_t code, size_t length, const char *what)
 {
-    uint8_t before[RECORD], left[RECORD], data[32];
+    uint8_t before[RECORD_BYTES], left[RECORD_BYTES], data[LONG_BYTES];
     uint64_t answer;
     memset(asked, 0, sizeof asked);
     asked[0] = code;
     asked_length = length;
-    memcpy(before, record, RECORD);
+    memcpy(before, record, RECORD_BYTES);
     library_serves();
     answer = sink;
-    memcpy(left, record, RECORD), memcpy(data, tile, sizeof data);
-    memcpy(record, before, RECORD);
+    memcpy(left, record, RECORD_BYTES), memcpy(data, tile, sizeof data);
+    memcpy(record, before, RECORD_BYTES);
     plain_serves();
-    if (sink != answer || memcmp(left, record, RECORD) != 0 || memcmp(data, tile, sizeof data) != 0)
+    if (sink != answer || memcmp(left, record, RECORD_BYTES) != 0 || memcmp(data, tile, sizeof data) != 0)
         abort();
     compare(what, library_serves, "plain C", plain_serves);
 }
@@ -263,9 +263,9 @@ int main(void)
 
     image = make_image(1, 1, 0, 64);
     mount(&image);
-    small(0x00, 6, "TEST UNIT READY, one object");
+    small(TEST_UNIT_READY, BYTES_6, "TEST UNIT READY, one object");
     put_position(1);
-    small(0x34, 10, "READ POSITION, one object");
+    small(READ_POSITION, BYTES_10, "READ POSITION, one object");
     free(image.at);
 
     image = make_image(32768, 1, 16, 0);
@@ -276,7 +276,8 @@ int main(void)
     image = make_image(20000, TILE, 0, (size_t)2 * TILE + 64);
     mount(&image);
     transfer(read_tile, pass_and_copy_out, "READ of 32 KiB among 20,000 objects", "READ of 32 KiB, without the pass");
-    transfer(write_tile, pass_and_copy_in, "WRITE of 32 KiB behind 20,000 objects", "WRITE of 32 KiB, without the pass");
+    transfer(write_tile, pass_and_copy_in, "WRITE of 32 KiB behind 20,000 objects",
+             "WRITE of 32 KiB, without the pass");
     free(image.at);
 
     blocks = calloc(256, TILE);

@@ -2,10 +2,8 @@
 #ifndef PLAIN_H
 #define PLAIN_H
 
-#include "stormtoggle.h"
+#include "../tests/numbers.h"
 #include <string.h>
-
-enum { TRAILER = 16, ENTRY = 4, RECORD = STORMTOGGLE_RECORD_LENGTH };
 
 static inline void put32(uint8_t *at, uint32_t value)
 {
@@ -25,16 +23,16 @@ static inline uint32_t get32(const uint8_t *at)
 /* Whether an image of some length within the limits is sound. */
 static inline int sound(const uint8_t *s, size_t length)
 {
-    uint32_t n = get32(s + length - 16), d = get32(s + length - 8), before = 0;
-    int ok = get32(s + length - 4) == length && get32(s + length - 12) <= 1;
+    uint32_t n = get32(s + length - TRAILER_N), d = get32(s + length - TRAILER_D), before = 0;
+    int ok = get32(s + length - TRAILER_L) == length && get32(s + length - TRAILER_FLAGS) <= FLAG_PROTECTED;
     if ((uint64_t)d + (uint64_t)ENTRY * n + TRAILER != length)
         return 0;
     for (uint32_t i = 0; i < n; i++) {
-        uint32_t entry = get32(s + length - TRAILER - ENTRY * ((size_t)i + 1)), end = entry & 0x7fffffff;
-        if (entry >> 31)
+        uint32_t entry = get32(s + length - TRAILER - ENTRY * ((size_t)i + 1)), end = entry & ENTRY_END;
+        if (entry & ENTRY_FILEMARK)
             ok &= end == before;
         else
-            ok &= end > before && end - before <= 65536;
+            ok &= end > before && end - before <= LARGEST_BLOCK;
         before = end;
     }
     return ok && before <= d;
