@@ -1,15 +1,7 @@
 # host.sh: sourced by the scripts that build or run x86-64 programs. Sets compiler, flags and runner, and installs what
 # is missing. The static library and the listing program are x86-64, so another machine crosses over and emulates.
 # shellcheck shell=bash
-
-# Installs Debian packages. Its output is kept off standard output, whose last line is a verdict.
-install_packages() { # PACKAGE...
-    [ $# -gt 0 ] || return 0
-    if ! { apt-get update && DEBIAN_FRONTEND=noninteractive apt-get install -y --no-install-recommends "$@"; } >&2 </dev/null; then
-        echo "host.sh: missing and could not be installed: $*"
-        return 1
-    fi
-}
+. tests/progress.sh
 
 missing=()
 if [ "$(uname -m)" = x86_64 ]; then

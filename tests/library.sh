@@ -5,7 +5,7 @@
 mkdir -p target/host || exit 2
 if [ -z "${LIBRARY-}" ]; then
     LIBRARY=target/staticlib/libstormtoggle.a
-    rt staticlib stormtoggle || exit 2
+    library_shown target/host || exit 2
 fi
 
 # Builds a test program, and tells in which file it stands.

@@ -22,7 +22,8 @@ judge() { # STATUS WHAT
         return
     fi
     failed=$((failed + 1))
-    printf 'listing of %s: status %s, and instead of\n%s\nit wrote\n%s\n' "$2" "$1" "$(head -n 5 "$room/wanted")" "$(head -n 5 "$room/wrote")"
+    printf 'listing of %s: status %s, and instead of\n%s\nit wrote\n%s\n' "$2" "$1" "$(head -n 5 "$room/wanted")" \
+        "$(head -n 5 "$room/wrote")"
 }
 
 lists() { # WANTED WORDS-OF-MAKE_IMAGE...
