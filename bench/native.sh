@@ -1,5 +1,6 @@
-# native.sh: sourced by bench/run. On a machine that is not x86-64 it compiles the library's own module for this machine, so that
-# the proved code is timed natively: the toolchain's compiler is called through a wrapper that keeps the module it is handed.
+# native.sh: sourced by bench/run. On a machine that is not x86-64 it compiles the library's own module for this one, so
+# that the proved code is timed natively: the toolchain's compiler is called through a wrapper that keeps the module
+# it is handed.
 # shellcheck shell=bash
 
 native_object() { # OUTPUT
@@ -21,9 +22,10 @@ W
         name=$(basename "$rlib" .rlib)
         [ "$name" = stormtoggle ] || extern+=(--extern "$name=$rlib")
     done
-    "$on/bin/rattle" build --crate-name stormtoggle crates/stormtoggle/src/lib.rt --extern std="$on/rlib/std.rlib" "${extern[@]}" \
-        -L dependency=target/rlib -L dependency="$on/rlib" --antt-project "$kit/logic/antt-project.json" \
-        --logic-built "$on/logic-built" --toolchain "$PWD/$out/toolchain" --crate-type staticlib -o "$out/lib.a" >"$out/build.log" 2>&1 \
+    "$on/bin/rattle" build --crate-name stormtoggle crates/stormtoggle/src/lib.rt --extern std="$on/rlib/std.rlib" \
+        "${extern[@]}" -L dependency=target/rlib -L dependency="$on/rlib" \
+        --antt-project "$kit/logic/antt-project.json" --logic-built "$on/logic-built" \
+        --toolchain "$PWD/$out/toolchain" --crate-type staticlib -o "$out/lib.a" >"$out/build.log" 2>&1 \
         || { cat "$out/build.log"; return 1; }
     local module
     module=$(find "$out/kept" -type f | head -n 1)
@@ -31,5 +33,6 @@ W
         -Xclang -disable-llvm-passes -o "$out/module.ll"
     sed -i -e "s/target triple = .*/target triple = \"$(uname -m)-unknown-linux-gnu\"/" -e 's/"target-cpu"="x86-64"//' \
         -e 's/"probe-stack"="inline-asm"//' -e '/target datalayout/d' "$out/module.ll"
-    "$on/toolchain/bin/clang" --target="$(uname -m)-unknown-linux-gnu" --no-default-config -x ir "$out/module.ll" -fPIC -O3 -c -o "$1"
+    "$on/toolchain/bin/clang" --target="$(uname -m)-unknown-linux-gnu" --no-default-config -x ir "$out/module.ll" \
+        -fPIC -O3 -c -o "$1"
 }

@@ -1,5 +1,6 @@
 #!/usr/bin/env bash
-# faults.sh: shows that tests/differential/differential.c can fail: the run of check finds each of ten slips seeded in the model.
+# faults.sh: shows that tests/differential/differential.c can fail: the run of check finds each of ten slips seeded in
+# the model.
 # LIBRARY names another archive than the one that is built here from the sources.
 set -u
 cd "$(dirname "$0")/../.." || exit 2

@@ -1,5 +1,6 @@
 #!/usr/bin/env bash
-# long.sh [CALLS [SEED]]: a long run of tests/differential/differential.c: five million calls and a seed by the clock, unless said.
+# long.sh [CALLS [SEED]]: a long run of tests/differential/differential.c: five million calls and a seed by the clock,
+# unless said.
 # LIBRARY names another archive than the one that is built here from the sources.
 set -u
 calls=${1-5000000} seed=${2-$(date +%s)}
