@@ -62,7 +62,8 @@ enum {
     STORMTOGGLE_RECORD_SENSE = 12        /* 18 bytes, any: the kept sense; empty is 70h first, 0Ah in byte 7, else 0 */
 };
 
-/* The kept sense, which REQUEST SENSE gives too: how long it is, and where each field starts. Other bytes are 0. */
+/* The kept sense, which REQUEST SENSE gives too: how long it is, and where each field starts. A service makes its other
+ * bytes 0. */
 enum {
     STORMTOGGLE_SENSE_LENGTH = 18,
     STORMTOGGLE_SENSE_FIRST = 0,       /* 1 byte: F0h if the information is valid, else 70h */

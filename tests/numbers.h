@@ -145,6 +145,6 @@ enum { POSITION_BOP = 0x80, POSITION_ZONE = 0x40 };
 /* "0B 00 wp 08, then descriptor 0 x5 and block length (3); DBD: 03 00 wp 00. wp is 80h": with a descriptor and without.
  * Byte 0 is how much follows, byte 3 the descriptor's length. MODE SELECT's list has the same lengths and places. */
 enum { MODE_BYTES = 12, MODE_HEADER = 4, MODE_DESCRIPTOR = 8, MODE_WP = 0x80 };
-enum { AT_WP = 2, AT_DESCRIPTOR = 3, AT_BLOCK_LENGTH = 9 };
+enum { AT_DESCRIPTOR = 3, AT_BLOCK_LENGTH = 9 };
 
 #endif
