@@ -1,4 +1,3 @@
 pub mod Counts
-pub mod Along
 pub mod Located
 pub mod Spaced

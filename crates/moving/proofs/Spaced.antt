@@ -23,9 +23,9 @@ use Rattle.sense.specs.Sense.{told}
 use Rattle.sense.proofs.Packing.{told-signed}
 use Rattle.record.specs.declared.drive.Drive.{Drive}
 use Rattle.codes.specs.Fields.{spaceCodeOf, spaceCountOf}
-use Rattle.moving.specs.declared.walks.Why.the-variants.{Done, Marked, Edge}
-use Rattle.moving.specs.declared.walks.Walked.{Walked}
-use Rattle.moving.specs.Walks.{walkOf, whyOf}
+use Rattle.walks.specs.declared.Why.the-variants.{Done, Marked, Edge}
+use Rattle.walks.specs.declared.Walked.{Walked}
+use Rattle.walks.specs.Walks.{walkOf, whyOf}
 use Rattle.commands.specs.declared.deeds.Left.{Left}
 use Rattle.commands.specs.Act.{Seen, carrying, good, checked, at, moved, spaceTells, filemarkMet, endMet, beginningMet, overBlocks, movement, spacing}
 use Rattle.commands.specs.Call.{seenOf}

@@ -1,7 +1,6 @@
 // SPACE, LOCATE and REWIND: how they move over the objects of an image, where they end, and what they tell.
 mod locating;
 mod spacing;
-mod walks;
 
 pub use locating::locate;
 pub use locating::rewind;

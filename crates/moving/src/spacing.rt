@@ -8,20 +8,20 @@ ghost use lib.ListN.{length, drop};
 ghost use Rattle.objects.specs.Movement.{blocks, filemarks, walk, before};
 ghost use Rattle.objects.specs.Movement.{space as Movement·space};
 ghost use Rattle.image.specs.Image.{count, sound, objects};
-ghost use Rattle.moving.specs.Walks.{walkOf};
+ghost use Rattle.walks.specs.Walks.{walkOf};
 ghost use Rattle.commands.specs.Act.{moved, overBlocks, spacing};
 ghost use Rattle.commands.specs.Call.{seenOf};
 ghost use Rattle.commands.specs.Left.{leftBy};
-use crate::walks::Walked;
-use crate::walks::Why;
-use crate::walks::blocks_back;
-use crate::walks::blocks_on;
-use crate::walks::filemarks_back;
-use crate::walks::filemarks_on;
 use commands::Left;
 use commands::OVER_BLOCKS;
 use commands::TO_END;
 use record::Drive;
+use walks::Walked;
+use walks::Why;
+use walks::blocks_back;
+use walks::blocks_on;
+use walks::filemarks_back;
+use walks::filemarks_on;
 
 // The walk on from p over n of what the code counts.
 fn walk_on(s: &[u8], code: u8, p: u32, n: u32) -> Walked

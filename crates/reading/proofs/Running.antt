@@ -18,10 +18,10 @@ use Rattle.image.specs.Image.{count, sound, objects}
 use Rattle.image.proofs.Facts.{sound-parts}
 use Rattle.image.proofs.Objects.{length-objects, end-bytes}
 use Rattle.record.specs.declared.drive.Drive.{Drive}
-use Rattle.reading.specs.declared.runs.Ended.the-variants.{Whole, OddLength, AtFilemark, AtEnd}
-use Rattle.reading.specs.declared.runs.Blocks.{Blocks}
+use Rattle.transfer.specs.declared.runs.Ended.the-variants.{Whole, OddLength, AtFilemark, AtEnd}
+use Rattle.transfer.specs.declared.runs.Blocks.{Blocks}
 use Rattle.objects.specs.Transfer.{oddLength, Run, halted, wholeBefore, runOf}
-use Rattle.reading.specs.Runs.{runWith}
+use Rattle.transfer.specs.Runs.{runWith}
 use Rattle.commands.specs.declared.deeds.Left.{Left}
 use Rattle.commands.specs.Act.{Seen, carrying, good, checked, at, filemarkMet, endMet, oddMet, runTells, readRun}
 use Rattle.commands.specs.Left.{leftBy}

@@ -9,16 +9,16 @@ ghost use Rattle.image.specs.Image.{count, sound, objects};
 ghost use Rattle.codes.specs.declared.operation.Operation.the-variants.{Read};
 ghost use Rattle.codes.specs.Fields.{transferOf};
 ghost use Rattle.objects.specs.Transfer.{runOf};
-ghost use Rattle.reading.specs.Runs.{runWith};
+ghost use Rattle.transfer.specs.Runs.{runWith};
 ghost use Rattle.commands.specs.Act.{hidden, carrying, readBlock, readVariable, readRun, reading};
 ghost use Rattle.commands.specs.Tests.{bytesAsked, fieldError};
 ghost use Rattle.commands.specs.Call.{seenOf};
 ghost use Rattle.commands.specs.Left.{leftBy};
-use crate::runs::Blocks;
-use crate::runs::Ended;
-use crate::runs::read_blocks;
 use commands::Left;
 use record::Drive;
+use transfer::Blocks;
+use transfer::Ended;
+use transfer::read_blocks;
 
 // What a run of blocks of the partition s leaves, n having been asked for: the drive behind what was crossed, and why it ended.
 fn run_leaves(s: &[u8], d: Drive, n: u32, run: Blocks, carried: u32) -> Left

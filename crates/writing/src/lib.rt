@@ -1,6 +1,5 @@
 // WRITE, WRITE FILEMARKS and ERASE: what they leave of the drive and of the partition.
 mod erasing;
-mod puts;
 mod putting;
 
 pub use erasing::erase;

@@ -14,10 +14,10 @@ ghost use Rattle.commands.specs.Act.{carrying, checked, good, at, warned, overf
 ghost use Rattle.commands.specs.Tests.{bytesAsked, fieldError};
 ghost use Rattle.commands.specs.Call.{seenOf};
 ghost use Rattle.commands.specs.Left.{leftBy};
-use crate::puts::put_blocks;
-use crate::puts::put_filemarks;
 use commands::Left;
 use record::Drive;
+use transfer::put_blocks;
+use transfer::put_filemarks;
 
 // Of n objects asked for, `put` went down at the position of d, and s is the partition after them: not all, all and in the zone, or all.
 // Where not all went down, the residue is request - actual.

@@ -1,5 +1,16 @@
--- `drive::serve` meets its contract: a walk of its compiled form, step by step. The borrow is opened, the struct is copied out and passed to `step::serve_by_value`, with the slices at their own lifetimes, shares and names, so that none of them has to come back; the struct of the result is stored where the old one stood, and the borrow is closed at it.
--- All that the proof knows of `serve_by_value` is that it meets its contract.
+-- `drive::serve` meets its contract: a walk of its compiled form (`rt mir drive`), step by step. The borrow is opened, the struct is copied out and
+-- passed to `step::serve_by_value`, with the slices at their own lifetimes, shares and names, so that none of them has to come back; the struct of the
+-- result is stored where the old one stood, and the borrow is closed at it. All that the proof knows of `serve_by_value` is that it meets its contract.
+--
+-- How it is made again when a slice is added or taken away. All of it follows from the list of the k slices, m of them `&mut` (here c, x0, x1, s, x2:
+-- k = 5, m = 3). Each list over the parameters, nested to the right, has an item a slice: lifetimes κi, shares qi, tokens, `named (i + 1)`, values,
+-- `stayed`, `all-go`, what `walks` tells; a `&` slice is dropped, a `&mut` slice is given (`gave-slice`) and comes back as a last list z.
+-- The locals are 0 the result, 1 the borrow, 2 to k + 1 the slices, k + 2 what the call returns, k + 3 the copy of the struct, then for each `&mut` slice
+-- its pointer and the slice made of it (an `addr` and an `agg`): n = 4 + k + 2m. `alloc1`, `forget` and `free1` stand n times. In the context each local
+-- has two places, the last local first: local i is at 2 (n - 1 - i), plus what stands in front of them, which is nothing when the parameters are passed,
+-- 7 items while the borrow is open, 5 at the call (the tokens, the struct and the slices have gone into it), and then F + 6 and at the end F + 4, where F
+-- counts the last lists and the `true` behind them. What `lasts` holds is split from the left: `drop` for what is not `&mut`, for a `&mut` slice its
+-- length's equation by `feqL`. `exits` puts the last lists together from the right, `nothing` for a `&` slice.
 -- Assumes nothing.
 use mathlib.Core.Path.{_≡_, refl, ap}
 use Prim.Native.Nat.{ℕ}

@@ -1,5 +1,12 @@
--- `drive::serve_lent` meets its contract: a walk of its compiled form, step by step. The drive is put into a local, which is lent to `drive::serve` for a lifetime that is made for the call, and comes back at the last value that `serve` says.
--- All that the proof knows of `serve` is that it meets its contract.
+-- `drive::serve_lent` meets its contract: a walk of its compiled form (`rt mir drive`), step by step. The drive is put into a local, which is lent to
+-- `drive::serve` for a lifetime that is made for the call, and comes back at the last value that `serve` says. All that the proof knows of `serve` is that
+-- it meets its contract.
+--
+-- It is made again as the walk of `serve` is (there), from the list of the k slices, m of them `&mut`, with these differences. The locals are 0 the result,
+-- 1 the drive, 2 to k + 1 the slices, k + 2 the local that is lent, k + 3 the answer, k + 4 the borrow of the local, then for each `&mut` slice its pointer
+-- and the slice made of it, and last the local's copy: n = 6 + k + 2m. The lent local's cell leaves the context when it is laid (`laid`) and comes back in
+-- front when the lifetime has ended (`ref-back`, `unlaid`), so the places of the locals before it are one less meanwhile. The callee's lists have the made
+-- lifetime ν and the borrow before those of the slices, and its last values begin with the drive.
 -- Assumes nothing.
 use mathlib.Core.Path.{_≡_, refl, ap, subst}
 use Prim.Native.Nat.{ℕ}

@@ -1,7 +1,7 @@
 -- To the end by code 3; else on or back, by the sign of the count, and what the two leave is what the definition says of that count.
 -- Assumes nothing.
 use borrow.Author.Needs.{needs}
-use Rattle.moving.proofs.Along.{trailer-in}
+use Rattle.walks.proofs.Along.{trailer-in}
 use Rattle.moving.proofs.Counts.{asks-some, goes-back, goes-on}
 use Rattle.moving.proofs.Spaced.{spaced-to-end, spaced}
 use Rattle.moving.proofs.spacing.space.Statement.{statement}

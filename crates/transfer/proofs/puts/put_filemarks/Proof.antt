@@ -4,9 +4,9 @@ use Prim.Native.Nat.{_-_, _≤_}
 use mathlib.Core.Path.{sym, _∙_}
 use native.Mathlib.Omega.{arith}
 use borrow.Author.Tests.{not-true, not-false}
-use Rattle.writing.proofs.Going.{Marking, marks-begin, marks-turn, marks-stop, marks-end, small}
-use Rattle.writing.proofs.puts.put_filemarks.Statement.{statement}
-use Rattle.writing.proofs.puts.put_filemarks.Tie as tie
+use Rattle.transfer.proofs.Going.{Marking, marks-begin, marks-turn, marks-stop, marks-end, small}
+use Rattle.transfer.proofs.puts.put_filemarks.Statement.{statement}
+use Rattle.transfer.proofs.puts.put_filemarks.Tie as tie
 
 abbrev Inv-loop : tie.InvT-loop
 Inv-loop s₀ p n done₀ s done = (done ≤ n) × Marking p n s₀ done s

@@ -4,9 +4,9 @@ use Prim.Native.Nat.{_-_}
 use mathlib.Core.Logic.{⊎-elim}
 use native.Mathlib.Omega.{arith}
 use Rattle.objects.specs.Movement.{filemarks}
-use Rattle.moving.proofs.Along.{Along, back, entry-in, starts, ends-edge, ends-done, filemark-counted, block-passed}
-use Rattle.moving.proofs.walks.filemarks_back.Statement.{statement}
-use Rattle.moving.proofs.walks.filemarks_back.Tie as tie
+use Rattle.walks.proofs.Along.{Along, back, entry-in, starts, ends-edge, ends-done, filemark-counted, block-passed}
+use Rattle.walks.proofs.filemarks_back.Statement.{statement}
+use Rattle.walks.proofs.filemarks_back.Tie as tie
 
 abbrev Inv-loop : tie.InvT-loop
 Inv-loop s p n at₀ left₀ at left = Along back filemarks s p n at left

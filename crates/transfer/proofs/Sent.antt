@@ -14,7 +14,7 @@ use Rattle.image.specs.Image.{count, fits, sound}
 use Rattle.changes.specs.Changes.{occur}
 use Rattle.objects.specs.Transfer.{blocksOf}
 use Rattle.objects.proofs.Fitting.{next-place, place-in}
-use Rattle.writing.proofs.Going.{Going, Gone, begin, turn, stops, ends}
+use Rattle.transfer.proofs.Going.{Going, Gone, begin, turn, stops, ends}
 
 -- ---- where block k of n lies
 

@@ -1,9 +1,9 @@
 -- What the code's numbers and cases of a walk stand for.
 -- Assumes nothing: these are definitions.
 use Rattle.objects.specs.Movement as M
-use Rattle.moving.specs.declared.walks.Why.{Why}
-use Rattle.moving.specs.declared.walks.Why.the-variants.{Done, Marked, Edge}
-use Rattle.moving.specs.declared.walks.Walked.{Walked}
+use Rattle.walks.specs.declared.Why.{Why}
+use Rattle.walks.specs.declared.Why.the-variants.{Done, Marked, Edge}
+use Rattle.walks.specs.declared.Walked.{Walked}
 
 abbrev pub whyOf : Why → M.Why
 whyOf Done = M.done

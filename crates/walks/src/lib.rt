@@ -5,7 +5,7 @@ ghost use Prim.Native.Nat.{_≤_};
 ghost use lib.ListN.{drop};
 ghost use Rattle.image.specs.Image.{count, sound, objects};
 ghost use Rattle.objects.specs.Movement.{blocks, filemarks, walk, before};
-ghost use Rattle.moving.specs.Walks.{walkOf};
+ghost use Rattle.walks.specs.Walks.{walkOf};
 
 // Why a walk ends: all that was asked for is counted, a filemark was crossed that was not, nothing more lies ahead.
 pub enum Why {

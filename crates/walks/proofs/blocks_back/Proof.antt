@@ -3,9 +3,9 @@
 use Prim.Native.Nat.{_-_}
 use native.Mathlib.Omega.{arith}
 use Rattle.objects.specs.Movement.{blocks}
-use Rattle.moving.proofs.Along.{Along, back, entry-in, starts, ends-edge, ends-marked, ends-done, block-counted}
-use Rattle.moving.proofs.walks.blocks_back.Statement.{statement}
-use Rattle.moving.proofs.walks.blocks_back.Tie as tie
+use Rattle.walks.proofs.Along.{Along, back, entry-in, starts, ends-edge, ends-marked, ends-done, block-counted}
+use Rattle.walks.proofs.blocks_back.Statement.{statement}
+use Rattle.walks.proofs.blocks_back.Tie as tie
 
 abbrev Inv-loop : tie.InvT-loop
 Inv-loop s p n at₀ left₀ at left = Along back blocks s p n at left

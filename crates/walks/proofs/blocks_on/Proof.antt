@@ -2,9 +2,9 @@
 -- Assumes nothing.
 use native.Mathlib.Omega.{arith}
 use Rattle.objects.specs.Movement.{blocks}
-use Rattle.moving.proofs.Along.{Along, on, trailer-in, entry-in, starts, ends-edge, ends-marked, ends-done, block-counted}
-use Rattle.moving.proofs.walks.blocks_on.Statement.{statement}
-use Rattle.moving.proofs.walks.blocks_on.Tie as tie
+use Rattle.walks.proofs.Along.{Along, on, trailer-in, entry-in, starts, ends-edge, ends-marked, ends-done, block-counted}
+use Rattle.walks.proofs.blocks_on.Statement.{statement}
+use Rattle.walks.proofs.blocks_on.Tie as tie
 
 abbrev Inv-loop : tie.InvT-loop
 Inv-loop s p n last at₀ left₀ at left = Along on blocks s p n at left

@@ -6,7 +6,7 @@ ghost use lib.ListN.{length, drop};
 ghost use Rattle.words.specs.Words.{over};
 ghost use Rattle.objects.specs.Transfer.{runOf};
 ghost use Rattle.image.specs.Image.{count, sound, objects};
-ghost use Rattle.reading.specs.Runs.{runWith};
+ghost use Rattle.transfer.specs.Runs.{runWith};
 
 // Why a run of blocks ends: all were read, one had another length, a filemark, end of data.
 pub enum Ended {

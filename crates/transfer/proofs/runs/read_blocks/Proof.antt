@@ -6,9 +6,9 @@ use native.Mathlib.Omega.{arith}
 use lib.ListN.{length}
 use Rattle.objects.proofs.Fitting.{place-in}
 use Rattle.image.proofs.Lies.{few, lies}
-use Rattle.reading.proofs.Whole.{ReadOn, reads-begin, reads-whole, reads-end, reads-filemark, reads-odd, reads-room, reads-turn}
-use Rattle.reading.proofs.runs.read_blocks.Statement.{statement}
-use Rattle.reading.proofs.runs.read_blocks.Tie as tie
+use Rattle.transfer.proofs.Whole.{ReadOn, reads-begin, reads-whole, reads-end, reads-filemark, reads-odd, reads-room, reads-turn}
+use Rattle.transfer.proofs.runs.read_blocks.Statement.{statement}
+use Rattle.transfer.proofs.runs.read_blocks.Tie as tie
 
 abbrev Inv-loop : tie.InvT-loop
 Inv-loop s p n b received₀ count done₀ received done = (done ≤ n) × ReadOn s p n b received₀ done received

@@ -5,11 +5,11 @@ use mathlib.Core.Path.{sym, _∙_}
 use native.Mathlib.Omega.{arith}
 use lib.ListN.{length}
 use borrow.Author.Tests.{not-true, not-false}
-use Rattle.writing.proofs.Going.{small}
+use Rattle.transfer.proofs.Going.{small}
 use Rattle.objects.proofs.Fitting.{place-in}
-use Rattle.writing.proofs.Sent.{Sending, part-fits, blocks-begin, blocks-turn, blocks-stop, blocks-end}
-use Rattle.writing.proofs.puts.put_blocks.Statement.{statement}
-use Rattle.writing.proofs.puts.put_blocks.Tie as tie
+use Rattle.transfer.proofs.Sent.{Sending, part-fits, blocks-begin, blocks-turn, blocks-stop, blocks-end}
+use Rattle.transfer.proofs.puts.put_blocks.Statement.{statement}
+use Rattle.transfer.proofs.puts.put_blocks.Tie as tie
 
 abbrev Inv-loop : tie.InvT-loop
 Inv-loop s₀ p n b sent done₀ s done = (done ≤ n) × Sending p n b sent s₀ done s

@@ -3,9 +3,9 @@
 use mathlib.Core.List.{List}
 use Prim.Native.Nat.{ℕ}
 use Rattle.objects.specs.Transfer as T
-use Rattle.reading.specs.declared.runs.Ended.{Ended}
-use Rattle.reading.specs.declared.runs.Ended.the-variants.{Whole, OddLength, AtFilemark, AtEnd}
-use Rattle.reading.specs.declared.runs.Blocks.{Blocks}
+use Rattle.transfer.specs.declared.runs.Ended.{Ended}
+use Rattle.transfer.specs.declared.runs.Ended.the-variants.{Whole, OddLength, AtFilemark, AtEnd}
+use Rattle.transfer.specs.declared.runs.Blocks.{Blocks}
 
 abbrev pub endedOf : Ended → T.Ended
 endedOf Whole = T.whole

@@ -5,9 +5,9 @@ use mathlib.Core.Logic.{⊎-elim}
 use native.Mathlib.Omega.{arith}
 use Rattle.objects.specs.Movement.{filemarks}
 use Rattle.image.specs.Image.{count}
-use Rattle.moving.proofs.Along.{Along, on, trailer-in, entry-in, starts, ends-edge, ends-done, filemark-counted, block-passed}
-use Rattle.moving.proofs.walks.filemarks_on.Statement.{statement}
-use Rattle.moving.proofs.walks.filemarks_on.Tie as tie
+use Rattle.walks.proofs.Along.{Along, on, trailer-in, entry-in, starts, ends-edge, ends-done, filemark-counted, block-passed}
+use Rattle.walks.proofs.filemarks_on.Statement.{statement}
+use Rattle.walks.proofs.filemarks_on.Tie as tie
 
 abbrev Inv-loop : tie.InvT-loop
 Inv-loop s p n last at₀ left₀ at left = Along on filemarks s p n at left
