@@ -9,7 +9,7 @@ use Rattle.words.specs.Words.{bytes, over, zeros}
 use Rattle.objects.specs.Object.{Object, filemark, block, dataOf}
 use Rattle.objects.specs.Events.{Event, put, cut}
 use Rattle.objects.specs.Room.{trailerLength, entryLength}
-use Rattle.image.specs.Image.{flagsBack, directoryBack, sizeBack, entryPlace, count, flags, directory, endAt}
+use Rattle.image.specs.Image.{flagsBack, directoryBack, sizeBack, topOfEntry, entryPlace, count, flags, directory, endAt}
 
 -- the trailer's N and D for n objects, in an image of l bytes: D = L − 16 − 4N
 unfoldable pub retitle : ℕ → ℕ → List ℕ → List ℕ
@@ -17,7 +17,7 @@ retitle l n s = over (over s (l - trailerLength) (bytes 4 n)) (l - directoryBack
 
 -- the entry of an object that follows the end p: top bit 1 for a filemark, below it the end of the object's data
 unfoldable pub entryOf : Object → ℕ → ℕ
-entryOf filemark p = 2 ^ 31 + p
+entryOf filemark p = topOfEntry + p
 entryOf (block bs) p = p + length bs
 
 -- the data and the entry of the object o at number n

@@ -11,6 +11,7 @@ ghost use Rattle.image.specs.Image.{mostLength, count, sound, fits};
 ghost use Rattle.changes.specs.Changes.{retitle as Changes·retitle, occur, cleared};
 use image::DIRECTORY;
 use image::ENTRY;
+use image::FILEMARK;
 use image::TRAILER;
 use image::count_of;
 use image::end_at;
@@ -19,9 +20,6 @@ use words::clear_at;
 use words::copy_at;
 use words::put32_at;
 use words::set32_at;
-
-// The top bit of an entry.
-const FILEMARK: u32 = 0x8000_0000;
 
 // Sets N and D for n objects.
 pub fn retitle(s: &mut [u8], n: usize)

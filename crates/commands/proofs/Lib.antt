@@ -1,3 +1,4 @@
 pub mod Among
 pub mod Leaving
 pub mod Wrong
+pub mod Long

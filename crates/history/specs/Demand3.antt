@@ -15,6 +15,8 @@ use Rattle.image.specs.Image.{sound, objects}
 use Rattle.sense.specs.declared.Sense.{Sense}
 use Rattle.sense.specs.Sense.{noSense, blankCheck, noAdditional, unqualified, filemarkDetected, endOfDataDetected, partsOf}
 use Rattle.record.specs.Record.{noAttention, decodeOf, wellRecord}
+use Rattle.codes.specs.declared.operation.Operation.the-variants.{Rewind, Read, Locate}
+use Rattle.codes.specs.Codes.{numberOf}
 use Rattle.commands.specs.Call.{Result, inserted}
 use Rattle.history.specs.History.{Slot, number, Cartridge, part, together, Call, isGood, commanded, slicesLeft, ends, past}
 
@@ -37,7 +39,7 @@ pub record AtBeginning (s : Slot) (rec : List ℕ) : Type 0 where
 
 -- READ, not FIXED, of the largest block; SILI or not
 abbrev pub readLargest : Bool → List ℕ
-readLargest sili = (0x08 ∷ cond sili 0x02 0x00 ∷ []) ++ bytes 3 largestBlock ++ (0x00 ∷ [])
+readLargest sili = (numberOf Read ∷ cond sili 0x02 0x00 ∷ []) ++ bytes 3 largestBlock ++ (0x00 ∷ [])
 
 -- what else is lent to a read: any bytes, with room in the receiving buffer
 pub record Reading : Type 0 where
@@ -104,10 +106,10 @@ pub record Demand3 (s : Slot) (c : Cartridge) (calls : List Call) : Type 0 where
 -- ---- how the beginning is reached: from anywhere by LOCATE with CP to object 0, on the current partition by REWIND; nothing else changes
 
 abbrev pub locateFirst : Slot → List ℕ
-locateFirst s = (0x2B ∷ 0x02 ∷ 0x00 ∷ []) ++ bytes 4 0 ++ (0x00 ∷ number s ∷ 0x00 ∷ [])
+locateFirst s = (numberOf Locate ∷ 0x02 ∷ 0x00 ∷ []) ++ bytes 4 0 ++ (0x00 ∷ number s ∷ 0x00 ∷ [])
 
 abbrev pub rewind : List ℕ
-rewind = 0x01 ∷ 0x00 ∷ 0x00 ∷ 0x00 ∷ 0x00 ∷ 0x00 ∷ []
+rewind = numberOf Rewind ∷ 0x00 ∷ 0x00 ∷ 0x00 ∷ 0x00 ∷ 0x00 ∷ []
 
 pub record Reached (s : Slot) (c : Cartridge) (r : Result) : Type 0 where
   pub answered-good : isGood (r .answer) ≡ true

@@ -60,12 +60,15 @@ entryPlace l i = l - trailerLength - entryLength * (i + 1)
 unfoldable pub entry : List ℕ → ℕ → ℕ
 entry s i = be 4 s (entryPlace (length s) i)
 
--- its top bit, 1 for a filemark, and its low 31 bits, the end of the object's data
+-- "top bit 1 for a filemark, low 31 bits the end of its data"
+abbrev pub topOfEntry : ℕ
+topOfEntry = 2 ^ 31
+
 unfoldable pub topBit : ℕ → Bool
-topBit e = eqb (e / 2 ^ 31) 1
+topBit e = eqb (e / topOfEntry) 1
 
 unfoldable pub low31 : ℕ → ℕ
-low31 e = e % 2 ^ 31
+low31 e = e % topOfEntry
 
 -- end(n): the end of object n − 1; end(0) = 0
 unfoldable pub endAt : List ℕ → ℕ → ℕ

@@ -15,8 +15,14 @@ pub const DIRECTORY: usize = 8;
 
 pub const SIZE: usize = 4;
 
-// An entry's length.
+// An entry's length; its top bit, where that stands, and the bits below it.
 pub const ENTRY: usize = 4;
+
+pub const FILEMARK: u32 = 0x8000_0000;
+
+const TOP: u32 = 31;
+
+const END: u32 = 0x7fff_ffff;
 
 // The share of the image that the early warning leaves.
 const WARNING_SHARE: usize = 16;
@@ -57,14 +63,14 @@ pub fn entry_at(s: &[u8], i: usize) -> u32
 pub fn end_of(e: u32) -> u32
     ensures { λ r. ⌜ r ≡ low31 e ⌝ }
 {
-    e & 0x7fff_ffff
+    e & END
 }
 
 // An entry's top bit: a filemark.
 pub fn marks(e: u32) -> bool
     ensures { λ r. ⌜ r ≡ topBit e ⌝ }
 {
-    e >> 31 == 1
+    e >> TOP == 1
 }
 
 // The end of object n - 1; 0 at n = 0.
@@ -124,7 +130,7 @@ pub fn filemarks_before(s: &[u8], n: usize) -> usize
     let mut found: usize = 0;
     let mut i: usize = 0;
     while i < n {
-        found += (entry_at(s, i) >> 31) as usize;
+        found += (entry_at(s, i) >> TOP) as usize;
         i += 1;
     }
     found

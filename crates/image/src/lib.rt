@@ -5,6 +5,7 @@ mod sound;
 
 pub use entries::DIRECTORY;
 pub use entries::ENTRY;
+pub use entries::FILEMARK;
 pub use entries::FLAGS;
 pub use entries::SIZE;
 pub use entries::TRAILER;

@@ -1,4 +1,3 @@
-pub mod Long
 pub mod Rows
 pub mod Counts
 pub mod Order

@@ -18,7 +18,7 @@ use Rattle.commands.specs.Act.{Seen}
 use Rattle.commands.specs.Parameters.{headerLength, wholeLength, listLengthKnown}
 use Rattle.commands.specs.Kinds.{among, passesAttention, isServed, writes}
 use Rattle.commands.proofs.Among.{last}
-use Rattle.order.proofs.Long.{served-long, locate-long}
+use Rattle.commands.proofs.Long.{served-long, locate-long}
 
 -- ---- one command and another, by their numbers
 

@@ -29,14 +29,14 @@ use Rattle.commands.specs.Left.{protectedOnly}
 use Rattle.order.specs.declared.Stop.{Stop}
 use Rattle.order.specs.declared.Stop.the-variants.{Refuse, Attend, Fault, Pass}
 use Rattle.order.specs.Stops.{stopOf}
-use Rattle.order.proofs.Long.{locate-long}
+use Rattle.commands.proofs.Long.{locate-long}
 use Rattle.laws.proofs.Classes.{named, unchanged}
 use Rattle.laws.proofs.Exact.{step-stops, step-acts}
 use Rattle.step.specs.declared.stepping.Served.{Served}
 use Rattle.step.specs.Served.{outcomeOf, answerOf, guardedNow}
-use Rattle.step.specs.Ready.{Free, Ready, ReadyApart}
-use Rattle.step.proofs.Asked.{pass}
-use Rattle.step.proofs.Acts.{Acts, Apart, no-writing}
+use Rattle.acting.specs.Ready.{Free, Ready, ReadyApart}
+use Rattle.acting.proofs.Asked.{pass}
+use Rattle.acting.proofs.Acts.{Acts, Apart, no-writing}
 use Rattle.laws.proofs.Faultless.{small-block}
 use Rattle.step.proofs.Looked.{sound-looked, place-looked, seen-loaded, seen-unloaded, guarded-alike}
 

@@ -1,5 +1,4 @@
 // One command on a drive by value: the tests in order, and then its act on the partition that it looks at.
-mod acting;
 mod partitions;
 mod stepping;
 

@@ -1,9 +1,9 @@
 -- LOAD, or unload.
 -- Assumes nothing.
 use borrow.Author.Needs.{needs}
-use Rattle.step.proofs.Acts.{loads, unloads}
-use Rattle.step.proofs.acting.load_unload.Statement.{statement}
-use Rattle.step.proofs.acting.load_unload.Tie as tie
+use Rattle.acting.proofs.Acts.{loads, unloads}
+use Rattle.acting.proofs.load_unload.Statement.{statement}
+use Rattle.acting.proofs.load_unload.Tie as tie
 
 load-requires : tie.Need-load-requires
 load-requires c κs = search needs

@@ -7,11 +7,11 @@ use Rattle.codes.specs.declared.operation.Operation.the-variants.{TestUnitReady
 use Rattle.commands.specs.Act.{act, eventsOf, marking, goesDown, offered}
 use Rattle.commands.specs.Step.{acted}
 use Rattle.commands.specs.Call.{laidOut}
-use Rattle.step.proofs.Acts.{acts-written, acts-laid, acts-quiet, acts-apart, writing-none, marking-none, spacing-none, locating-none}
-use Rattle.step.proofs.Asked.{five, asks-read, asks-write, asks-place, asks-locate, asks-position, asks-protection, asks-apart}
-use Rattle.step.proofs.Told.{told-apart}
-use Rattle.step.proofs.acting.act_on.Statement.{statement}
-use Rattle.step.proofs.acting.act_on.Tie as tie
+use Rattle.acting.proofs.Acts.{acts-written, acts-laid, acts-quiet, acts-apart, writing-none, marking-none, spacing-none, locating-none}
+use Rattle.acting.proofs.Asked.{five, asks-read, asks-write, asks-place, asks-locate, asks-position, asks-protection, asks-apart}
+use Rattle.acting.proofs.Told.{told-apart}
+use Rattle.acting.proofs.act_on.Statement.{statement}
+use Rattle.acting.proofs.act_on.Tie as tie
 
 enum-told : tie.Need-enum-told
 enum-told c = search needs

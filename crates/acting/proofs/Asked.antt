@@ -23,9 +23,9 @@ use Rattle.commands.specs.Call.{seenOf, nothing}
 use Rattle.commands.specs.Left.{protectedOnly}
 use Rattle.laws.proofs.Passed.{Passed, passed}
 use Rattle.laws.proofs.Replies.{reply-length}
-use Rattle.order.proofs.Long.{served-long, locate-long}
-use Rattle.step.specs.Ready.{Free, Ready, ReadyApart}
-use Rattle.step.proofs.Alike.{tests-alike}
+use Rattle.commands.proofs.Long.{served-long, locate-long}
+use Rattle.acting.specs.Ready.{Free, Ready, ReadyApart}
+use Rattle.acting.proofs.Alike.{tests-alike}
 
 module _ {o : Operation} {d : Drive} {cmd sent : List ℕ} {room : ℕ} where
   pub pass : {v : Seen} → Free o d cmd sent room v → Passed o d cmd v sent room

@@ -9,7 +9,7 @@ ghost use Rattle.commands.specs.Act.{act};
 ghost use Rattle.commands.specs.Step.{acted};
 ghost use Rattle.commands.specs.Call.{seenOf, laidOut, nothing};
 ghost use Rattle.commands.specs.Left.{leftBy, protectedOnly};
-ghost use Rattle.step.specs.Ready.{Ready, ReadyApart};
+ghost use Rattle.acting.specs.Ready.{Ready, ReadyApart};
 use codes::Operation;
 use commands::Left;
 use record::Drive;

@@ -6,11 +6,11 @@ use mathlib.Core.Path.{_≡_, sym, _∙_}
 use mathlib.Core.Bool.{true, false}
 use borrow.Author.Needs.{needs}
 use Rattle.commands.specs.Act.{act, replyOf}
-use Rattle.step.proofs.Acts.{unlaid, selecting-none}
-use Rattle.step.proofs.Asked.{asks-sense, asks-limits, asks-select, asks-mode}
-use Rattle.step.proofs.Told.{told-others}
-use Rattle.step.proofs.acting.act_apart.Statement.{statement}
-use Rattle.step.proofs.acting.act_apart.Tie as tie
+use Rattle.acting.proofs.Acts.{unlaid, selecting-none}
+use Rattle.acting.proofs.Asked.{asks-sense, asks-limits, asks-select, asks-mode}
+use Rattle.acting.proofs.Told.{told-others}
+use Rattle.acting.proofs.act_apart.Statement.{statement}
+use Rattle.acting.proofs.act_apart.Tie as tie
 
 enum-told : tie.Need-enum-told
 enum-told c = search needs
