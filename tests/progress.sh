@@ -37,6 +37,9 @@ indented() { # COMMAND...
 
 # ---- rt
 
+# One proof more at a time than there are processors: each waits for its files now and then.
+export RT_JOBS=${RT_JOBS-$(($(nproc) + 1))}
+
 # The crates that these are proved with, themselves included: all that crates.txt lists if none is named.
 crates_for() { # NAME...
     NAMES=$* awk '
