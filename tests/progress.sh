@@ -37,8 +37,8 @@ indented() { # COMMAND...
 
 # ---- rt
 
-# As many proofs at a time as rt runs of itself at the most, on any machine: each waits for its files at times.
-export RT_JOBS=${RT_JOBS-4}
+# One proof more at a time than there are processors: each waits for its files now and then.
+export RT_JOBS=${RT_JOBS-$(($(nproc) + 1))}
 
 # The crates that these are proved with, themselves included: all that crates.txt lists if none is named.
 crates_for() { # NAME...
