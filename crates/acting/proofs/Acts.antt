@@ -18,13 +18,13 @@ use Rattle.codes.specs.declared.operation.Operation.{Operation}
 use Rattle.codes.specs.declared.operation.Operation.the-variants.{Write, WriteFilemarks, LoadUnload}
 use Rattle.codes.specs.Fields.{loadOf, allocationOf, transferOf, fixedOf}
 use Rattle.commands.specs.Parameters.{listRight}
-use Rattle.commands.specs.declared.deeds.Left.{Left}
+use Rattle.deeds.specs.declared.deeds.Left.{Left}
 use Rattle.commands.specs.Kinds.{needsCartridge, writes}
 use Rattle.commands.specs.Act.{Seen, Deed, good, carrying, writing, marking, spacing, locating, selecting, replyOf, act, goesDown, wrote}
 use Rattle.commands.specs.Step.{acted}
 use Rattle.commands.specs.Call.{seenOf, nothing, laidOut}
-use Rattle.commands.specs.Left.{leftBy, protectedOnly}
-use Rattle.laws.proofs.Classes.{Class, blocks, filemarks, erasing, quiet, classify, unchanged, NoCartridge, asks-sense, asks-limits, selects, asks-mode, which-apart}
+use Rattle.deeds.specs.Left.{leftBy, protectedOnly}
+use Rattle.commands.proofs.Classes.{Class, blocks, filemarks, erasing, quiet, classify, unchanged, NoCartridge, asks-sense, asks-limits, selects, asks-mode, which-apart}
 
 -- ---- commands that lay nothing over the receiving buffer
 

@@ -6,7 +6,7 @@ use mathlib.Core.Bool.{Bool, true, false, _&&_}
 use mathlib.Core.List.{List}
 use Rattle.record.specs.declared.drive.Drive.{Drive}
 use Rattle.codes.specs.declared.operation.Operation.{Operation}
-use Rattle.commands.specs.Stop.{first}
+use Rattle.answers.specs.Answers.{first}
 use Rattle.commands.specs.Kinds.{writes}
 use Rattle.commands.specs.Act.{Seen}
 use Rattle.commands.specs.Tests.{tests}

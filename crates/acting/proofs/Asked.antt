@@ -20,9 +20,9 @@ use Rattle.commands.specs.Kinds.{isServed, needsCartridge, locates}
 use Rattle.commands.specs.Act.{Seen, replyOf}
 use Rattle.commands.specs.Tests.{taken, replyLength, needed, bytesAsked, fieldError}
 use Rattle.commands.specs.Call.{seenOf, nothing}
-use Rattle.commands.specs.Left.{protectedOnly}
-use Rattle.laws.proofs.Passed.{Passed, passed}
-use Rattle.laws.proofs.Replies.{reply-length}
+use Rattle.deeds.specs.Left.{protectedOnly}
+use Rattle.commands.proofs.Passed.{Passed, passed}
+use Rattle.commands.proofs.Replies.{reply-length}
 use Rattle.commands.proofs.Long.{served-long, locate-long}
 use Rattle.acting.specs.Ready.{Free, Ready, ReadyApart}
 use Rattle.acting.proofs.Alike.{tests-alike}

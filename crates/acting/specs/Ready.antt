@@ -11,12 +11,12 @@ use Rattle.image.specs.Image.{count, sound}
 use Rattle.record.specs.declared.drive.Drive.{Drive}
 use Rattle.codes.specs.declared.operation.Operation.{Operation}
 use Rattle.codes.specs.Codes.{codeOf, tooShort, operationOf}
-use Rattle.commands.specs.Stop.{first}
+use Rattle.answers.specs.Answers.{first}
 use Rattle.commands.specs.Kinds.{needsCartridge, locates}
 use Rattle.commands.specs.Act.{Seen}
 use Rattle.commands.specs.Tests.{tests}
 use Rattle.commands.specs.Call.{seenOf}
-use Rattle.commands.specs.Left.{protectedOnly}
+use Rattle.deeds.specs.Left.{protectedOnly}
 
 -- the operation is that of a whole command block, and no test stops it; v is what it sees, room the length of the receiving buffer
 pub record Free (o : Operation) (d : Drive) (cmd sent : List ℕ) (room : ℕ) (v : Seen) : Type 0 where

@@ -8,10 +8,10 @@ ghost use Rattle.codes.specs.declared.operation.Operation.the-variants.{LoadUnl
 ghost use Rattle.commands.specs.Act.{act};
 ghost use Rattle.commands.specs.Step.{acted};
 ghost use Rattle.commands.specs.Call.{seenOf, laidOut, nothing};
-ghost use Rattle.commands.specs.Left.{leftBy, protectedOnly};
+ghost use Rattle.deeds.specs.Left.{leftBy, protectedOnly};
 ghost use Rattle.acting.specs.Ready.{Ready, ReadyApart};
 use codes::Operation;
-use commands::Left;
+use deeds::Left;
 use record::Drive;
 
 // A command that needs no cartridge: of a partition it sees only whether it is protected.
@@ -32,7 +32,7 @@ pub fn act_apart(
         Operation::ModeSelect => parameters::select(d, cmd, sent),
         Operation::ModeSense => parameters::mode_sense(d, cmd, guarded, received),
         // All others need a cartridge.
-        _ => commands::good(d, 0),
+        _ => deeds::good(d, 0),
     }
 }
 
@@ -42,9 +42,9 @@ fn load_unload(d: Drive, cmd: &[u8]) -> Left
     ensures { λ r. ⌜ r ≡ leftBy (act LoadUnload d (now (cmd .entry)) [] nothing) ⌝ }
 {
     if codes::load(cmd) {
-        return commands::good(record::load_anew(d), 0);
+        return deeds::good(record::load_anew(d), 0);
     }
-    commands::good(record::unload(d), 0)
+    deeds::good(record::unload(d), 0)
 }
 
 // Any command, on the partition that it looks at.
@@ -69,8 +69,8 @@ pub fn act_on(
         Operation::Erase => writing::erase(s, d, cmd),
         Operation::LoadUnload => load_unload(d, cmd),
         Operation::Rewind => moving::rewind(d),
-        Operation::TestUnitReady => commands::good(d, 0),
-        Operation::NotServed => commands::good(d, 0),
+        Operation::TestUnitReady => deeds::good(d, 0),
+        Operation::NotServed => deeds::good(d, 0),
         Operation::RequestSense
         | Operation::ReadBlockLimits
         | Operation::ModeSelect

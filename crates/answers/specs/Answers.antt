@@ -2,6 +2,7 @@
 -- Assumes nothing: these are definitions.
 use Prim.Native.Nat.{ℕ, _+_, _*_, _^_}
 use mathlib.Core.Bool.{Bool, cond}
+use mathlib.Core.Option.{Option, none, some}
 use mathlib.Core.List.{List, [], _∷_}
 use lib.Dec.{eqb}
 use Rattle.answers.specs.declared.Answer.{Answer}
@@ -44,10 +45,16 @@ answered status carried = record { refusal = 0; status = status; carried = carri
 abbrev pub done : Answer
 done = answered 0 0
 
--- the number of the first test that holds, in the order given; 0 for none
-abbrev pub firstOf : List (Bool × ℕ) → ℕ
-firstOf [] = 0
-firstOf (t ∷ ts) = cond (t .0) (t .1) (firstOf ts)
+-- of the tests of a call, in their order, what the first that holds gives
+module _ {A : Type 0} where
+  unfoldable pub first : List (Bool × A) → Option A
+  first [] = none
+  first (t ∷ ts) = cond (t .0) (some (t .1)) (first ts)
+
+-- where that is a refusal: its number, 0 for none
+abbrev pub refusalOf : Option ℕ → ℕ
+refusalOf none = 0
+refusalOf (some n) = n
 
 -- all that a service leaves which may alter one lent slice: its answer, and the slice
 pub record Settled : Type 0 where
@@ -56,6 +63,10 @@ pub record Settled : Type 0 where
 
 abbrev pub settled : Answer → List ℕ → Settled
 settled a s = record { answer = a; lent = s }
+
+-- a house service whose tests refuse it by n leaves the slice as it was lent; else it leaves what it makes of it
+abbrev pub settledBy : ℕ → List ℕ → List ℕ → Settled
+settledBy n lent made = cond (eqb n 0) (settled done made) (settled (refused n) lent)
 
 -- bits 0 to 31 the bytes carried, 32 to 34 the refusal, bit 35 set for the status 02h
 unfoldable pub packed : Answer → ℕ

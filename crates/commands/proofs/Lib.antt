@@ -1,4 +1,11 @@
 pub mod Among
-pub mod Leaving
 pub mod Wrong
 pub mod Long
+pub mod Faultless
+pub mod Classes
+pub mod Passed
+pub mod Ends
+pub mod Exact
+pub mod Goes
+pub mod Laid
+pub mod Replies

@@ -4,5 +4,5 @@ pub mod Act
 pub mod Tests
 pub mod Step
 pub mod Call
-pub mod Left
 pub mod Parameters
+pub mod Conditions

@@ -6,7 +6,7 @@ use mathlib.Core.Bool.{Bool, false, _&&_}
 use mathlib.Core.Option.{Option, none, some}
 use mathlib.Core.List.{List, []}
 use Rattle.answers.specs.declared.Answer.{Answer}
-use Rattle.answers.specs.Answers.{checkCondition, refused, answered}
+use Rattle.answers.specs.Answers.{checkCondition, refused, answered, first}
 use Rattle.objects.specs.Events.{Event}
 use Rattle.sense.specs.declared.Sense.{Sense}
 use Rattle.sense.specs.Sense.{senseBytes, plainly, emptySense, attentionSense}
@@ -15,7 +15,7 @@ use Rattle.record.specs.Record.{withSense}
 use Rattle.codes.specs.declared.operation.Operation.{Operation}
 use Rattle.codes.specs.Codes.{codeOf, operationOf}
 use Rattle.codes.specs.Fields.{longOf}
-use Rattle.commands.specs.Stop.{Stop, refuse, attend, fault, first}
+use Rattle.commands.specs.Stop.{Stop, refuse, attend, fault}
 use Rattle.commands.specs.Kinds.{erases}
 use Rattle.commands.specs.Act.{Seen, unattended, act, eventsOf}
 use Rattle.commands.specs.Tests.{tests}

@@ -12,7 +12,7 @@ use Rattle.sense.specs.Sense.{senseBytes, reports, told, emptySense, attentionS
 use Rattle.record.specs.Record.{decodeOf, encodeOf, attentionKnown, emptyHanded, placed, wellFormed, wellRecord, withSense, unloaded, loadedAnew}
 use Rattle.codes.specs.Codes.{tooShort, inMasks, masksHold}
 use Rattle.codes.specs.Fields.{fixedOf, siliOf, transferOf, spaceCodeOf, spaceCountOf, longOf, changesPartition, objectOf, partitionOf, loadOf, formOf, dbdOf, pageOf, pfOf, allocationOf}
-use Rattle.commands.specs.Stop.{first}
+use Rattle.answers.specs.Answers.{first}
 use Rattle.objects.specs.Transfer.{runOf, blocksOf, marksOf, fitting, putFrom}
 use Rattle.commands.specs.Act.{hidden, readVariable, runTells, reading, offered, goesDown, wrote, writing, marking, spaceTells, movement, spacing, targetOf, locateTells, locating, selecting, replyOf, act, eventsOf}
 use Rattle.commands.specs.Tests.{bytesAsked, fieldError, taken, replyLength, needed, tests}

@@ -25,16 +25,16 @@ use Rattle.codes.specs.declared.operation.Operation.the-variants.{Write, WriteF
 use Rattle.codes.specs.Codes.{codeOf, operationOf}
 use Rattle.codes.specs.Fields.{fixedOf, transferOf}
 use Rattle.objects.specs.Transfer.{blocksOf, marksOf, fitting, putFrom}
-use Rattle.commands.specs.Stop.{first}
+use Rattle.answers.specs.Answers.{first}
 use Rattle.commands.specs.Kinds.{erases, needsCartridge, writes}
 use Rattle.commands.specs.Act.{Seen, Deed, good, carrying, at, offered, goesDown, wrote, writing, marking, act, eventsOf}
 use Rattle.commands.specs.Tests.{tests}
 use Rattle.commands.specs.Step.{Stepped, statusOf, keptOf, acted}
 use Rattle.commands.specs.Call.{Lent, Result, partition, looksAt, seenOf, seen, laidOut, applied, written}
-use Rattle.laws.proofs.Classes.{Class, blocks, filemarks, erasing, quiet, classify, no-erase, no-offers, no-events, unchanged}
-use Rattle.laws.proofs.Goes.{GoAll, Touch, untouched, touched, has-cartridge, act-goes, act-touches, puts-reach}
-use Rattle.laws.proofs.Laid.{Turned, still, laid-turned}
-use Rattle.laws.proofs.Faultless.{Well, Inside, inside, seen-there, back, kept-whole}
+use Rattle.commands.proofs.Classes.{Class, blocks, filemarks, erasing, quiet, classify, no-erase, no-offers, no-events, unchanged}
+use Rattle.commands.proofs.Goes.{GoAll, Touch, untouched, touched, has-cartridge, act-goes, act-touches, puts-reach}
+use Rattle.commands.proofs.Laid.{Turned, still, laid-turned}
+use Rattle.commands.proofs.Faultless.{Well, Inside, inside, seen-there, back, kept-whole}
 use Rattle.history.specs.History.{Slot, slot0, slot1, number, cartridge, part, slicesLeft, caused}
 use Rattle.history.proofs.Ended.{nothing-offered, first-fitting}
 

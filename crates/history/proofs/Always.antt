@@ -10,7 +10,7 @@ use borrow.Author.Tests.{not-true, eqb-true, eqb-false}
 use lib.Dec.{eqb}
 use lib.ListN.{length, take, length-take}
 use Rattle.answers.specs.declared.Answer.{Answer}
-use Rattle.answers.specs.Answers.{recordFault, alreadyLoaded, unsoundImage, wrongLength, refused, done, settled}
+use Rattle.answers.specs.Answers.{recordFault, alreadyLoaded, unsoundImage, wrongLength, refused, done, settled, first, refusalOf}
 use Rattle.objects.specs.Events.{happen, happens}
 use Rattle.image.specs.Image.{rightLength, sound, count, objects}
 use Rattle.image.specs.Image.{faultOf}
@@ -25,21 +25,21 @@ use Rattle.codes.specs.declared.operation.Operation.the-variants.{TestUnitReady
 use Rattle.codes.specs.Codes.{codeOf, operationOf}
 use Rattle.image.specs.Image.{absent}
 use Rattle.house.specs.Mount.{partitionsOf, rightLengths, bothSound, mountFault, mountCall}
-use Rattle.commands.specs.Stop.{refuse, first}
+use Rattle.commands.specs.Stop.{refuse}
 use Rattle.commands.specs.Kinds.{erases, needsCartridge, writes}
 use Rattle.commands.specs.Act.{Seen, at, targetOf, locating, goesDown, act, eventsOf}
 use Rattle.commands.specs.Tests.{tests}
 use Rattle.commands.specs.Step.{acted, keptOf}
 use Rattle.commands.specs.Call.{Lent, lent, Result, partition, looksAt, seen, seenOf, inserted, written, commandTests, commandCall, laidOut, applied}
-use Rattle.laws.proofs.Exact.{refused-4}
+use Rattle.commands.proofs.Exact.{drive-test, refused-4}
 use Rattle.image.proofs.Judged.{never-both}
-use Rattle.laws.proofs.Passed.{passed}
-use Rattle.laws.proofs.Goes.{has-cartridge}
-use Rattle.laws.proofs.Laid.{Turned}
+use Rattle.commands.proofs.Passed.{passed}
+use Rattle.commands.proofs.Goes.{has-cartridge}
+use Rattle.commands.proofs.Laid.{Turned}
 use Rattle.history.specs.History.{Slot, slot0, slot1, Cartridge, cartridge, protection, slicesLeft, after, ends}
 use Rattle.history.specs.Demand3.{NoFault}
 use Rattle.history.specs.Always.{Use, sends, mounts, protects, callsOf, recordUsed, AlwaysSo}
-use Rattle.laws.proofs.Faultless.{Cart, no-cart, one-part, two-parts, Well, well-test, fault-free, no-fault, empty-whole, inside, looks-in, seen-there, kept-whole}
+use Rattle.commands.proofs.Faultless.{Cart, no-cart, one-part, two-parts, Well, well-test, fault-free, no-fault, empty-whole, inside, looks-in, seen-there, kept-whole}
 use Rattle.history.proofs.Ended.{Finished, by-number, by-sense, by-act, ended, calm-well}
 use Rattle.history.proofs.Acted.{writing-drive, marking-drive, idle, stepped, sees, place, turned, shaped, put-place}
 use Rattle.history.proofs.Told.{protect-turned}
@@ -151,16 +151,9 @@ command-faultless rec cmd p0 p1 sent received h = go (ended rec cmd p0 p1 sent r
 
 -- and no command is refused with 4
 pub never-four : (rec cmd p0 p1 sent received : List ℕ) → NoFault rec (cartridge p0 p1) → commandCall rec (lent cmd p0 p1 sent received) .answer .refusal ≡ 4 → ⊥
-unfolding applied acted commandTests
-never-four rec cmd p0 p1 sent received h k = go (ended rec cmd p0 p1 sent received)
-  where
-    go : Finished rec cmd p0 p1 sent received → ⊥
-    go (by-number n l f e) =
-        let q : n ≡ 4 = sym (ap (λ (r : Result). r .answer .refusal) e) ∙ k in
-        let t : not (wellRecord rec && inserted (decodeOf rec) p0 p1) ≡ true = (refused-4 rec (lent cmd p0 p1 sent received) .0 (f ∙ ap (λ (x : ℕ). some (refuse x)) q)) .1 in
-        never-both h (not-true (wellRecord rec && inserted (decodeOf rec) p0 p1) t)
-    go (by-sense z f x b w p l e) = let q : _≡_ {A = ℕ} 0 4 = sym (ap (λ (r : Result). r .answer .refusal) e) ∙ k in omega arith
-    go (by-act f w q e) = let q : _≡_ {A = ℕ} 0 4 = sym (ap (λ (r : Result). r .answer .refusal) e) ∙ k in omega arith
+never-four rec cmd p0 p1 sent received h k =
+    let x = lent cmd p0 p1 sent received in
+    never-both h (not-true (wellRecord rec && inserted (decodeOf rec) p0 p1) (drive-test rec x .1 (refused-4 rec x .0 k .1)))
 
 -- ---- mount and protection
 
@@ -178,10 +171,10 @@ mounted-faultless p0 p1 h =
     no-fault (mountedDrive (partitionsOf p1)) (mountedDrive (partitionsOf p1) .sense) p0 p1 w empty-whole
 
 mount-sound : (rec p0 p1 : List ℕ) → mountFault rec p0 p1 ≡ 0 → bothSound p0 p1 ≡ true
-unfolding mountFault
+unfolding mountFault first
 mount-sound rec p0 p1 h = go (wellRecord rec) (eqb (decodeOf rec .loaded) 1) (rightLengths p0 p1) (bothSound p0 p1) h
   where
-    go : (a b c d : Bool) → cond (not a) recordFault (cond b alreadyLoaded (cond (not c) wrongLength (cond (not d) unsoundImage 0))) ≡ 0 → d ≡ true
+    go : (a b c d : Bool) → refusalOf (first ((not a, recordFault) ∷ (b, alreadyLoaded) ∷ (not c, wrongLength) ∷ (not d, unsoundImage) ∷ [])) ≡ 0 → d ≡ true
     go true false true true h = refl
     go true false true false h = absurd (let z : _≡_ {A = ℕ} unsoundImage 0 = h in omega arith)
     go true false false d h = absurd (let z : _≡_ {A = ℕ} wrongLength 0 = h in omega arith)
@@ -212,7 +205,7 @@ unfolding happens
 protect-count on p k = sym (length-objects ((protectCall on p) .lent)) ∙ ap length (protect-turned on p k .makes) ∙ length-objects p
 
 protect-absent : (on : Bool) (p : List ℕ) → length p ≡ 0 → length ((protectCall on p) .lent) ≡ 0
-protect-absent on [] e = unfold protectCall faultOf rightLength in refl
+protect-absent on [] e = unfold protectCall faultOf first rightLength in refl
 protect-absent on (x ∷ p) e = absurd (let z : suc (length p) ≡ 0 = e in omega arith)
 
 protect-cart : (s : Slot) (on : Bool) (d : Drive) (c : Cartridge) → Cart d (c .part0) (c .part1) → Cart d (after (protection s on) c .part0) (after (protection s on) c .part1)

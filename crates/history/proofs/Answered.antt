@@ -22,16 +22,17 @@ use Rattle.codes.specs.declared.operation.Operation.the-variants.{Write, WriteF
 use Rattle.codes.specs.Codes.{codeOf, operationOf}
 use Rattle.codes.specs.Fields.{fixedOf, transferOf}
 use Rattle.objects.specs.Transfer.{blocksOf, marksOf, putFrom}
-use Rattle.commands.specs.Stop.{Stop, first}
+use Rattle.commands.specs.Stop.{Stop}
+use Rattle.answers.specs.Answers.{first}
 use Rattle.commands.specs.Kinds.{erases}
 use Rattle.commands.specs.Act as A
 use Rattle.commands.specs.Act.{Seen, checked, carrying, at, warned, overflowed, offered, goesDown, wrote, writing, marking, act, eventsOf}
 use Rattle.commands.specs.Step.{acted, statusOf}
 use Rattle.commands.specs.Call.{lent, Result, seen, commandTests, commandCall, applied}
-use Rattle.laws.proofs.Classes.{Class, blocks, filemarks, erasing, quiet, classify, no-offers, no-events}
+use Rattle.commands.proofs.Classes.{Class, blocks, filemarks, erasing, quiet, classify, no-offers, no-events}
 use Rattle.history.specs.History.{isGood, caused}
 use Rattle.history.specs.Answered.{bytesPut, Answered}
-use Rattle.laws.proofs.Faultless.{back, place-small}
+use Rattle.commands.proofs.Faultless.{back, place-small}
 use Rattle.history.proofs.Ended.{Finished, by-number, by-sense, by-act, ended, nothing-caused, fitting-first}
 use Rattle.history.proofs.Acted.{none-down, no-marks, acts-caused}
 

@@ -9,7 +9,7 @@ use mathlib.Core.List.{List, [], _∷_}
 use borrow.Author.Tests.{not-false}
 use lib.ListN.{length, take}
 use lib.Seq.{take-nil}
-use Rattle.answers.specs.Answers.{refused}
+use Rattle.answers.specs.Answers.{refused, first}
 use Rattle.objects.specs.Object.{Object, dataOf}
 use Rattle.objects.specs.Events.{cut}
 use Rattle.objects.specs.Room.{roomOf, fitsIn}
@@ -20,15 +20,15 @@ use Rattle.codes.specs.declared.operation.Operation.{Operation}
 use Rattle.codes.specs.Codes.{codeOf, tooShort, operationOf}
 use Rattle.objects.specs.Transfer.{fitting, putFrom}
 use Rattle.objects.proofs.Fitting.{fitting-more, fitting-none}
-use Rattle.commands.specs.Stop.{Stop, refuse, attend, fault, first}
+use Rattle.commands.specs.Stop.{Stop, refuse, attend, fault}
 use Rattle.commands.specs.Kinds.{erases}
 use Rattle.commands.specs.Act.{unattended, offered}
 use Rattle.commands.specs.Tests.{tests}
 use Rattle.commands.specs.Step.{checkAnswer, stopped, acted}
 use Rattle.commands.specs.Call.{lent, Result, result, seen, inserted, written, commandTests, commandCall, applied, looksAt}
-use Rattle.laws.proofs.Exact.{call-stops, call-acts, refused-leaves}
+use Rattle.commands.proofs.Ends.{call-stops, call-acts, refused-leaves}
 use Rattle.history.specs.History.{isGood, caused}
-use Rattle.laws.proofs.Faultless.{Cart, no-cart, one-part, two-parts, Well, fault-free, sense-whole, attention-whole}
+use Rattle.commands.proofs.Faultless.{Cart, no-cart, one-part, two-parts, Well, fault-free, sense-whole, attention-whole}
 
 -- ---- lists of tests
 

@@ -19,7 +19,7 @@ use Rattle.codes.specs.Fields.{fixedOf, siliOf, transferOf, spaceCodeOf, spaceC
 use Rattle.house.specs.Mount.{rightLengths, bothSound, mountFault, mountCall}
 use Rattle.commands.specs.Parameters.{listLengthKnown, headerRight, descriptorRight, listRight}
 use Rattle.objects.specs.Transfer.{blocksOf, marksOf, fitting, putFrom}
-use Rattle.commands.specs.Stop.{first}
+use Rattle.answers.specs.Answers.{first}
 use Rattle.commands.specs.Act.{hidden, readVariable, reading, offered, goesDown, wrote, writing, marking, spaceTells, movement, spacing, selecting, replyOf, act, eventsOf}
 use Rattle.commands.specs.Tests.{bytesAsked, fieldError, taken, replyLength, needed, tests}
 use Rattle.commands.specs.Step.{statusOf, keptOf, stopped, acted, unless, step}

@@ -24,7 +24,7 @@ use Rattle.commands.specs.Parameters.{wholeLength, headerLength, headerRight, d
 use Rattle.commands.specs.Act.{Seen, Deed, good, checked, carrying, at, atPartition, withLength, hidden, reading, readVariable, movement, spacing, overBlocks, toEnd, targetOf, locating, selecting}
 use Rattle.commands.specs.Call.{partition}
 use Rattle.history.proofs.Lists.{get-lt}
-use Rattle.laws.proofs.Faultless.{Cart, no-cart, one-part, two-parts, Well}
+use Rattle.commands.proofs.Faultless.{Cart, no-cart, one-part, two-parts, Well}
 
 -- ---- the cartridge of a drive that moved
 

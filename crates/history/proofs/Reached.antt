@@ -8,7 +8,7 @@ use mathlib.Core.Option.{none}
 use mathlib.Core.List.{List}
 use borrow.Author.Tests.{eq-eqb, ne-eqb, le-ltb, lt-leb, le-leb}
 use lib.ListN.{length}
-use Rattle.answers.specs.Answers.{answered}
+use Rattle.answers.specs.Answers.{answered, first}
 use Rattle.words.specs.Words.{be, bytes}
 use Rattle.objects.specs.Movement as M
 use Rattle.record.specs.declared.drive.Drive.{Drive}
@@ -17,16 +17,15 @@ use Rattle.codes.specs.declared.operation.Operation.{Operation}
 use Rattle.codes.specs.declared.operation.Operation.the-variants.{Locate, Rewind}
 use Rattle.codes.specs.Codes.{codeOf, operationOf, tooShort, inMasks, masksHold}
 use Rattle.codes.specs.Fields.{changesPartition, partitionOf, objectOf}
-use Rattle.commands.specs.Stop.{first}
 use Rattle.commands.specs.Kinds.{writes}
 use Rattle.commands.specs.Act.{Seen, Deed, good, atPartition, targetOf, locateTells, locating, act}
 use Rattle.commands.specs.Tests.{tests, fieldError, taken, replyLength, needed}
 use Rattle.commands.specs.Step.{acted, statusOf, keptOf}
 use Rattle.commands.specs.Call.{lent, Result, seen, written, commandTests, commandCall, applied, looksAt}
-use Rattle.laws.proofs.Exact.{call-acts}
+use Rattle.commands.proofs.Ends.{call-acts}
 use Rattle.history.specs.History.{Slot, slot0, slot1, number, cartridge, isGood, slicesLeft}
 use Rattle.history.specs.Demand3.{NoFault, Mounted, locateFirst, rewind, Reached}
-use Rattle.laws.proofs.Faultless.{fault-free, back, kept-whole}
+use Rattle.commands.proofs.Faultless.{fault-free, back, kept-whole}
 use Rattle.history.proofs.Acted.{idle}
 use Rattle.history.proofs.Always.{command-faultless}
 

@@ -14,7 +14,7 @@ use lib.Seq.{take-all, take-append-seam}
 use Rattle.words.specs.Words.{be, bytes, over}
 use Rattle.words.specs.Signed.{wrapped}
 use Rattle.words.proofs.Wraps.{wrapped-lt}
-use Rattle.answers.specs.Answers.{checkCondition, answered}
+use Rattle.answers.specs.Answers.{checkCondition, answered, first}
 use Rattle.objects.specs.Object.{Object, filemark, block, dataOf, largestBlock}
 use Rattle.image.specs.Image.{count, entry, topBit, endAt, objectAt, objects}
 use Rattle.image.proofs.Facts.{Sound, ordered-at, follows-size}
@@ -27,16 +27,15 @@ use Rattle.record.specs.Record.{noAttention, decodeOf, encodeOf, withSense}
 use Rattle.codes.specs.declared.operation.Operation.the-variants.{Read}
 use Rattle.codes.specs.Codes.{tooShort, inMasks, masksHold}
 use Rattle.codes.specs.Fields.{fixedOf, siliOf, transferOf}
-use Rattle.commands.specs.Stop.{first}
 use Rattle.commands.specs.Act.{Seen, Deed, good, checked, giving, at, hidden, oddMet, filemarkMet, endMet, readVariable, reading, act}
 use Rattle.commands.specs.Tests.{tests, bytesAsked, fieldError, taken, needed}
 use Rattle.commands.specs.Step.{acted, statusOf, keptOf}
 use Rattle.commands.specs.Call.{Lent, lent, Result, result, partition, looksAt, seenOf, commandTests, commandCall, applied}
-use Rattle.laws.proofs.Exact.{call-acts}
-use Rattle.laws.proofs.Classes.{unchanged}
+use Rattle.commands.proofs.Ends.{call-acts}
+use Rattle.commands.proofs.Classes.{unchanged}
 use Rattle.history.specs.History.{Slot, slot0, slot1, number, Cartridge, cartridge, part, slicesLeft}
 use Rattle.history.specs.Demand3.{NoFault, Mounted, AtBeginning, readLargest, Reading, readOnce, Met, object, endOfData, nothingKnown, says, metOf, readings, readThrough, meetings}
-use Rattle.laws.proofs.Faultless.{Well, fault-free, back, place-small, sense-whole, Inside, inside, seen-there, kept-whole}
+use Rattle.commands.proofs.Faultless.{Well, fault-free, back, place-small, sense-whole, Inside, inside, seen-there, kept-whole}
 use Rattle.history.proofs.Lists.{get-lt, get-getD, drop-none, drop-some}
 use Rattle.history.proofs.Always.{command-faultless}
 

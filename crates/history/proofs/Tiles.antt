@@ -26,12 +26,13 @@ use Rattle.codes.specs.declared.operation.Operation.the-variants.{Write}
 use Rattle.codes.specs.Codes.{codeOf, operationOf}
 use Rattle.codes.specs.Fields.{fixedOf, transferOf}
 use Rattle.objects.specs.Transfer.{blocksOf, marksOf, putFrom}
-use Rattle.commands.specs.Stop.{Stop, first}
+use Rattle.commands.specs.Stop.{Stop}
+use Rattle.answers.specs.Answers.{first}
 use Rattle.commands.specs.Kinds.{writes}
 use Rattle.commands.specs.Act.{offered}
 use Rattle.commands.specs.Step.{acted}
 use Rattle.commands.specs.Call.{lent, Result, commandTests, commandCall, applied}
-use Rattle.laws.proofs.Classes.{no-erase, no-offers}
+use Rattle.commands.proofs.Classes.{no-erase, no-offers}
 use Rattle.history.specs.History.{Slot, slot0, slot1, number, Cartridge, part, MadeBlank, Lending, slices, isLentAs, Call, command, mount, protection, commanded, after, caused, events, ends, past}
 use Rattle.history.specs.Demand3.{meetings}
 use Rattle.history.specs.Tiles.{Kept, tileLength, tileOf, TileKept, MarkKept, Harmless, AllHarmless, Agree}

@@ -11,7 +11,7 @@ use borrow.Author.Tests.{ne-eqb}
 use lib.Dec.{eqb}
 use lib.ListN.{getElem?}
 use Rattle.answers.specs.declared.Answer.{Answer}
-use Rattle.answers.specs.Answers.{settled, refused, done, wrongLength}
+use Rattle.answers.specs.Answers.{settled, refused, done, wrongLength, first, refusalOf, settledBy}
 use Rattle.objects.specs.Object.{Object}
 use Rattle.objects.specs.Events.{Event, Clear, Stands, happens, Lawful}
 use Rattle.objects.proofs.Standing.{stand, stand-blank, happens-append, lawful-append}
@@ -25,8 +25,8 @@ use Rattle.record.specs.Record.{decodeOf, withSense}
 use Rattle.codes.specs.Codes.{codeOf, operationOf}
 use Rattle.commands.specs.Call.{lent, Result, result, commandCall}
 use Rattle.history.specs.History.{Slot, slot0, slot1, number, Cartridge, cartridge, part, MadeBlank, Lending, together, alone, Call, command, mount, protection, slicesLeft, after, caused, events, ends, past}
-use Rattle.laws.proofs.Faultless.{back, place-small}
-use Rattle.laws.proofs.Laid.{Turned, still}
+use Rattle.commands.proofs.Faultless.{back, place-small}
+use Rattle.commands.proofs.Laid.{Turned, still}
 use Rattle.history.proofs.Ended.{Finished, by-number, by-sense, by-act, ended, nothing-caused}
 use Rattle.history.proofs.Acted.{acts, acts-turned, acts-caused}
 
@@ -123,11 +123,11 @@ stood s c h xs k o =
     rw (t .makes) (stand (past s xs c) (objects (part s c)) (t .lawful) k o)
 
 pub blanked : (p : List ℕ) → MadeBlank p → Sound p × (objects p ≡ [])
-unfolding blankCall
+unfolding blankCall first
 blanked p m = go (rightLength (m .lent)) refl (m .answered) (m .left)
   where
-    go : (t : Bool) → rightLength (m .lent) ≡ t → (cond (not t) (settled (refused wrongLength) (m .lent)) (settled done (blank (m .lent)))) .answer ≡ done
-        → p ≡ (cond (not t) (settled (refused wrongLength) (m .lent)) (settled done (blank (m .lent)))) .lent → Sound p × (objects p ≡ [])
+    go : (t : Bool) → rightLength (m .lent) ≡ t → (settledBy (refusalOf (first ((not t, wrongLength) ∷ []))) (m .lent) (blank (m .lent))) .answer ≡ done
+        → p ≡ (settledBy (refusalOf (first ((not t, wrongLength) ∷ []))) (m .lent) (blank (m .lent))) .lent → Sound p × (objects p ≡ [])
     go true e a l =
         let b = right-parts (m .lent) e in
         let x = blanks (m .lent) (b .0) (b .1) in

@@ -13,7 +13,8 @@ use Rattle.record.specs.Record.{decodeOf}
 use Rattle.codes.specs.declared.operation.Operation.the-variants.{Write}
 use Rattle.codes.specs.Codes.{codeOf, operationOf}
 use Rattle.objects.specs.Transfer.{putFrom}
-use Rattle.commands.specs.Stop.{Stop, first}
+use Rattle.commands.specs.Stop.{Stop}
+use Rattle.answers.specs.Answers.{first}
 use Rattle.commands.specs.Kinds.{erases}
 use Rattle.commands.specs.Act.{offered, eventsOf}
 use Rattle.commands.specs.Call.{lent, seen, commandTests, commandCall}

@@ -17,7 +17,7 @@ use Rattle.record.specs.Record.{decodeOf}
 use Rattle.codes.specs.declared.operation.Operation.the-variants.{Write, WriteFilemarks}
 use Rattle.codes.specs.Codes.{codeOf, operationOf}
 use Rattle.codes.specs.Fields.{fixedOf, transferOf}
-use Rattle.commands.specs.Stop.{first}
+use Rattle.answers.specs.Answers.{first}
 use Rattle.commands.specs.Kinds.{writes}
 use Rattle.commands.specs.Call.{lent, commandTests}
 use Rattle.history.specs.History.{Slot, number, Cartridge, part, Lending, slices, isLentAs, Call, command, mount, protection, commanded, after, ends, past}

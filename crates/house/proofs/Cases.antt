@@ -7,7 +7,7 @@ use lib.ListN.{length}
 use mathlib.Core.List.{List}
 use borrow.Author.Tests.{eq-eqb, ne-eqb, not-true, not-false}
 use Rattle.answers.specs.declared.Answer.{Answer}
-use Rattle.answers.specs.Answers.{recordFault, settled, refused, done, wrongLength}
+use Rattle.answers.specs.Answers.{recordFault, settled, refused, done, wrongLength, first}
 use Rattle.image.specs.declared.part.Part.{Part}
 use Rattle.image.specs.Image.{rightLength}
 use Rattle.changes.specs.Changes.{blank, protect}
@@ -24,11 +24,11 @@ use Rattle.house.specs.Views.{chosen, chosenPlace}
 
 module _ (s : List ℕ) (r : Bool) (er : r ≡ rightLength s) (a : Answer) where
   pub blank-refused : not r ≡ true → a ≡ refused wrongLength → settled a s ≡ blankCall s
-  unfolding blankCall
+  unfolding blankCall first
   blank-refused h e = rw (← er, not-true r h, e) refl
 
   pub blank-done : not r ≡ false → (t : List ℕ) → t ≡ blank s → a ≡ done → settled a t ≡ blankCall s
-  unfolding blankCall
+  unfolding blankCall first
   blank-done h t et e = rw (← er, not-false r h, e, et) refl
 
 -- ---- protection
@@ -46,11 +46,11 @@ module _ (on : Bool) (s : List ℕ) (f : ℕ) (ef : f ≡ faultOf s) (a : Answer
 
 module _ (rec : List ℕ) (a : Answer) where
   pub fresh-refused : (length rec ≡ recordLength → ⊥) → a ≡ refused recordFault → settled a rec ≡ freshCall rec
-  unfolding freshCall
+  unfolding freshCall first
   fresh-refused h e = rw (ne-eqb (length rec) recordLength h, e) refl
 
   pub fresh-done : length rec ≡ recordLength → (t : List ℕ) (d : Drive) → d ≡ freshDrive → t ≡ encodeOf d → a ≡ done → settled a t ≡ freshCall rec
-  unfolding freshCall
+  unfolding freshCall first
   fresh-done h t d ed et e = rw (eq-eqb (length rec) recordLength h, e, et, ed) refl
 
 module _ (rec p0 p1 : List ℕ) (f : ℕ) (ef : f ≡ mountFault rec p0 p1) (a : Answer) where

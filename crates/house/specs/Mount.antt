@@ -5,7 +5,7 @@ use mathlib.Core.List.{List, [], _∷_}
 use Prim.Native.Nat.{ℕ}
 use lib.Dec.{eqb}
 use lib.ListN.{length}
-use Rattle.answers.specs.Answers.{recordFault, alreadyLoaded, unsoundImage, wrongLength, refused, done, firstOf, Settled, settled}
+use Rattle.answers.specs.Answers.{recordFault, alreadyLoaded, unsoundImage, wrongLength, Settled, first, refusalOf, settledBy}
 use Rattle.image.specs.Image.{rightLength, sound, absent}
 use Rattle.record.specs.Record.{recordLength, decodeOf, encodeOf, wellRecord, freshDrive, mountedDrive}
 
@@ -21,8 +21,11 @@ unfoldable pub bothSound : List ℕ → List ℕ → Bool
 bothSound p0 p1 = sound p0 && (absent p1 || sound p1)
 
 -- fresh: 4 for a record that is not 30 bytes
+abbrev pub freshTests : List ℕ → List (Bool × ℕ)
+freshTests rec = (not (eqb (length rec) recordLength), recordFault) ∷ []
+
 unfoldable pub freshCall : List ℕ → Settled
-freshCall rec = cond (eqb (length rec) recordLength) (settled done (encodeOf freshDrive)) (settled (refused recordFault) rec)
+freshCall rec = settledBy (refusalOf (first (freshTests rec))) rec (encodeOf freshDrive)
 
 -- "Mount tests 4 (record only), 5, then 7 for both slices, then 6."
 abbrev pub mountTests : List ℕ → List ℕ → List ℕ → List (Bool × ℕ)
@@ -34,7 +37,7 @@ mountTests rec p0 p1 =
     ∷ []
 
 unfoldable pub mountFault : List ℕ → List ℕ → List ℕ → ℕ
-mountFault rec p0 p1 = firstOf (mountTests rec p0 p1)
+mountFault rec p0 p1 = refusalOf (first (mountTests rec p0 p1))
 
 unfoldable pub mountCall : List ℕ → List ℕ → List ℕ → Settled
-mountCall rec p0 p1 = cond (eqb (mountFault rec p0 p1) 0) (settled done (encodeOf (mountedDrive (partitionsOf p1)))) (settled (refused (mountFault rec p0 p1)) rec)
+mountCall rec p0 p1 = settledBy (mountFault rec p0 p1) rec (encodeOf (mountedDrive (partitionsOf p1)))

@@ -3,14 +3,14 @@
 use Prim.Native.Nat.{ℕ, suc, _+_, _-_, _*_, _/_, _^_, _<_, _≤_}
 use mathlib.Core.Bool.{Bool, true, false, cond, not}
 use mathlib.Core.Path.{_≡_, refl, sym, ap, ap₂, _∙_}
-use mathlib.Core.List.{List}
+use mathlib.Core.List.{List, [], _∷_}
 use native.Mathlib.Numerals.{add-one}
 use native.Mathlib.Omega.{arith}
 use lib.ListN.{length, take, drop}
 use lib.Dec.{leb, eqb}
 use borrow.Author.Tests.{eq-eqb, le-ltb, lt-ltb, not-true, not-false}
 use Rattle.words.proofs.Laws.{part-is}
-use Rattle.answers.specs.Answers.{unsoundImage, wrongLength}
+use Rattle.answers.specs.Answers.{unsoundImage, wrongLength, first, refusalOf}
 use Rattle.image.specs.declared.part.Part.{Part}
 use Rattle.objects.specs.Room.{trailerLength, entryLength}
 use Rattle.image.specs.Image.{leastLength, mostLength, flagBits, count, flags, directory, size, entry, topBit, endAt, ordered, rightLength, sound}
@@ -55,24 +55,24 @@ tested-all s r o z f d n x er hr ez hz ef hf ed en hd eo ho ex =
 
 module _ (s : List ℕ) (r : Bool) (er : r ≡ rightLength s) where
   pub refused-length : not r ≡ true → wrongLength ≡ faultOf s
-  unfolding faultOf
+  unfolding faultOf first
   refused-length h = rw (← er, not-true r h) refl
 
   module _ (hr : not r ≡ false) (t : Bool) (et : t ≡ sound s) where
     pub refused-unsound : not t ≡ true → unsoundImage ≡ faultOf s
-    unfolding faultOf
+    unfolding faultOf first
     refused-unsound h = rw (← er, not-false r hr, ← et, not-true t h) refl
 
     pub no-fault : not t ≡ false → 0 ≡ faultOf s
-    unfolding faultOf
+    unfolding faultOf first
     no-fault h = rw (← er, not-false r hr, ← et, not-false t h) refl
 
 -- an image that is not refused is sound
 pub fault-free : (s : List ℕ) → faultOf s ≡ 0 → Sound s
-unfolding faultOf
+unfolding faultOf first
 fault-free s h = by (rightLength s) (sound s) refl h
   where
-    by : (r t : Bool) → sound s ≡ t → cond (not r) wrongLength (cond (not t) unsoundImage 0) ≡ 0 → Sound s
+    by : (r t : Bool) → sound s ≡ t → refusalOf (first ((not r, wrongLength) ∷ (not t, unsoundImage) ∷ [])) ≡ 0 → Sound s
     by true true e h = sound-parts s e
     by true false e h = absurd (let z : _≡_ {A = ℕ} unsoundImage 0 = h in omega arith)
     by false t e h = absurd (let z : _≡_ {A = ℕ} wrongLength 0 = h in omega arith)

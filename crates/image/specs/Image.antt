@@ -7,7 +7,7 @@ use lib.ListN.{length}
 use lib.Seq.{slice}
 use lib.Dec.{leb, ltb, eqb}
 use Rattle.words.specs.Words.{be}
-use Rattle.answers.specs.Answers.{unsoundImage, wrongLength}
+use Rattle.answers.specs.Answers.{unsoundImage, wrongLength, first, refusalOf}
 use Rattle.objects.specs.Object.{Object, filemark, block, largestBlock}
 use Rattle.objects.specs.Room.{trailerLength, entryLength, usedOf, roomOf, fitsIn, zoneIn}
 
@@ -101,9 +101,12 @@ sound s =
     && ordered s (count s)
     && leb (endAt s (count s)) (directory s)
 
--- the two refusals of an image: 7 for its length, then 6 where it is not sound; 0 for none
+-- the two refusals of an image: 7 for its length, then 6 where it is not sound
+abbrev pub imageTests : List ℕ → List (Bool × ℕ)
+imageTests s = (not (rightLength s), wrongLength) ∷ (not (sound s), unsoundImage) ∷ []
+
 unfoldable pub faultOf : List ℕ → ℕ
-faultOf s = cond (not (rightLength s)) wrongLength (cond (not (sound s)) unsoundImage 0)
+faultOf s = refusalOf (first (imageTests s))
 
 -- "an empty second slice is absent"
 abbrev pub absent : List ℕ → Bool

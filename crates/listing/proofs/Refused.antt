@@ -3,12 +3,12 @@
 use Prim.Native.Nat.{ℕ, _<_, _≤_}
 use mathlib.Core.Bool.{Bool, true, false, cond, not}
 use mathlib.Core.Path.{_≡_, refl}
-use mathlib.Core.List.{List}
+use mathlib.Core.List.{List, [], _∷_}
 use native.Mathlib.Omega.{arith}
 use lib.ListN.{length}
 use lib.Dec.{leb}
 use borrow.Author.Tests.{le-leb, lt-leb, leb-true}
-use Rattle.answers.specs.Answers.{wrongLength, unsoundImage}
+use Rattle.answers.specs.Answers.{wrongLength, unsoundImage, first, refusalOf}
 use Rattle.image.specs.Image.{rightLength, sound}
 use Rattle.image.specs.Image.{faultOf}
 use Rattle.image.proofs.Facts.{Sound, sound-parts}
@@ -26,15 +26,17 @@ refused-fault s f h e = rw (le-leb (length s) mostInput h) e
 
 -- the refusal by its three tests: short enough, of a right length, sound
 abbrev judged : Bool → Bool → Bool → ℕ
-judged short right ok = cond short (cond (not right) wrongLength (cond (not ok) unsoundImage 0)) wrongLength
+judged short right ok = cond short (refusalOf (first ((not right, wrongLength) ∷ (not ok, unsoundImage) ∷ []))) wrongLength
 
 judged-none : (short right ok : Bool) → judged short right ok ≡ 0 → (short ≡ true) × (ok ≡ true)
+unfolding first
 judged-none true true true h = (refl, refl)
 judged-none true true false h = let never : ⊥ = omega arith in absurd never
 judged-none true false ok h = let never : ⊥ = omega arith in absurd never
 judged-none false right ok h = let never : ⊥ = omega arith in absurd never
 
 judged-small : (short right ok : Bool) → judged short right ok < 10
+unfolding first
 judged-small true true true = omega arith
 judged-small true true false = omega arith
 judged-small true false ok = omega arith

@@ -14,10 +14,10 @@ use Rattle.image.proofs.Objects.{length-objects}
 use Rattle.record.specs.declared.drive.Drive.{Drive}
 use Rattle.codes.specs.declared.operation.Operation.the-variants.{Rewind}
 use Rattle.codes.specs.Fields.{objectOf}
-use Rattle.commands.specs.declared.deeds.Left.{Left}
+use Rattle.deeds.specs.declared.deeds.Left.{Left}
 use Rattle.commands.specs.Act.{carrying, good, checked, at, atPartition, endTold, targetOf, locateTells, locating, act}
 use Rattle.commands.specs.Call.{seenOf, nothing}
-use Rattle.commands.specs.Left.{leftBy}
+use Rattle.deeds.specs.Left.{leftBy}
 
 module _ (d : Drive) (cmd s : List ℕ) (k n m : ℕ) (ek : k ≡ targetOf d cmd) (en : n ≡ objectOf cmd) (em : m ≡ count s) (e : Drive) (r : Left) where
   objects-counted : length (objects s) ≡ m

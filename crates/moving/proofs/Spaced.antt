@@ -26,10 +26,10 @@ use Rattle.codes.specs.Fields.{spaceCodeOf, spaceCountOf}
 use Rattle.walks.specs.declared.Why.the-variants.{Done, Marked, Edge}
 use Rattle.walks.specs.declared.Walked.{Walked}
 use Rattle.walks.specs.Walks.{walkOf, whyOf}
-use Rattle.commands.specs.declared.deeds.Left.{Left}
+use Rattle.deeds.specs.declared.deeds.Left.{Left}
 use Rattle.commands.specs.Act.{Seen, carrying, good, checked, at, moved, spaceTells, filemarkMet, endMet, beginningMet, overBlocks, movement, spacing}
 use Rattle.commands.specs.Call.{seenOf}
-use Rattle.commands.specs.Left.{leftBy}
+use Rattle.deeds.specs.Left.{leftBy}
 
 -- ---- what the code counts
 

@@ -8,8 +8,8 @@ ghost use Rattle.image.specs.Image.{sound};
 ghost use Rattle.codes.specs.declared.operation.Operation.the-variants.{Rewind};
 ghost use Rattle.commands.specs.Act.{atPartition, locating, act};
 ghost use Rattle.commands.specs.Call.{seenOf, nothing};
-ghost use Rattle.commands.specs.Left.{leftBy};
-use commands::Left;
+ghost use Rattle.deeds.specs.Left.{leftBy};
+use deeds::Left;
 use record::Drive;
 
 // The drive at position n of partition k.
@@ -27,19 +27,19 @@ pub fn locate(s: &[u8], d: Drive, cmd: &[u8]) -> Left
     requires { ⌜ (sound (now s) ≡ true) × (9 ≤ length (now cmd)) ⌝ }
     ensures { λ r. ⌜ r ≡ leftBy (locating d (now (cmd .entry)) (seenOf (now (s .entry)))) ⌝ }
 {
-    let target = commands::target_of(d, cmd);
+    let target = deeds::target_of(d, cmd);
     let object = codes::object(cmd);
     let count = image::count_of(s);
     if object <= count {
-        return commands::good(at_partition(d, target, object), 0);
+        return deeds::good(at_partition(d, target, object), 0);
     }
-    let told = commands::end_told(s, false, 0, 0);
-    commands::checked(at_partition(d, target, count), told, 0)
+    let told = deeds::end_told(s, false, 0, 0);
+    deeds::checked(at_partition(d, target, count), told, 0)
 }
 
 // REWIND.
 pub fn rewind(d: Drive) -> Left
     ensures { λ r. ⌜ r ≡ leftBy (act Rewind d [] [] nothing) ⌝ }
 {
-    commands::good(commands::at(d, 0), 0)
+    deeds::good(deeds::at(d, 0), 0)
 }

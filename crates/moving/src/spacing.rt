@@ -11,10 +11,10 @@ ghost use Rattle.image.specs.Image.{count, sound, objects};
 ghost use Rattle.walks.specs.Walks.{walkOf};
 ghost use Rattle.commands.specs.Act.{moved, overBlocks, spacing};
 ghost use Rattle.commands.specs.Call.{seenOf};
-ghost use Rattle.commands.specs.Left.{leftBy};
-use commands::Left;
-use commands::OVER_BLOCKS;
-use commands::TO_END;
+ghost use Rattle.deeds.specs.Left.{leftBy};
+use deeds::Left;
+use kinds::OVER_BLOCKS;
+use kinds::TO_END;
 use record::Drive;
 use walks::Walked;
 use walks::Why;
@@ -52,11 +52,11 @@ fn space_on(s: &[u8], d: Drive, code: u8, n: u32) -> Left
 {
     let w = walk_on(s, code, d.position, n);
     let why = w.why;
-    let gone = commands::at(d, d.position + w.crossed);
+    let gone = deeds::at(d, d.position + w.crossed);
     match why {
-        Why::Done => commands::good(gone, 0),
-        Why::Marked => commands::checked(gone, commands::filemark_met(n, w.counted), 0),
-        Why::Edge => commands::checked(gone, commands::end_met(s, n, w.counted), 0),
+        Why::Done => deeds::good(gone, 0),
+        Why::Marked => deeds::checked(gone, deeds::filemark_met(n, w.counted), 0),
+        Why::Edge => deeds::checked(gone, deeds::end_met(s, n, w.counted), 0),
     }
 }
 
@@ -67,13 +67,13 @@ fn space_back(s: &[u8], d: Drive, code: u8, n: u32) -> Left
 {
     let w = walk_back(s, code, d.position, n);
     let why = w.why;
-    let gone = commands::at(d, d.position - w.crossed);
+    let gone = deeds::at(d, d.position - w.crossed);
     let request = words::difference(0, n);
     let actual = words::difference(0, w.counted);
     match why {
-        Why::Done => commands::good(gone, 0),
-        Why::Marked => commands::checked(gone, commands::filemark_met(request, actual), 0),
-        Why::Edge => commands::checked(gone, commands::beginning_met(request, actual), 0),
+        Why::Done => deeds::good(gone, 0),
+        Why::Marked => deeds::checked(gone, deeds::filemark_met(request, actual), 0),
+        Why::Edge => deeds::checked(gone, deeds::beginning_met(request, actual), 0),
     }
 }
 
@@ -95,7 +95,7 @@ pub fn space(s: &[u8], d: Drive, cmd: &[u8]) -> Left
     let code = codes::space_code(cmd);
     if code == TO_END {
         let end = image::count_of(s);
-        return commands::good(commands::at(d, end), 0);
+        return deeds::good(deeds::at(d, end), 0);
     }
     let count = codes::space_count(cmd);
     let n = magnitude(count);

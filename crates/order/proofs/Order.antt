@@ -4,7 +4,8 @@ use mathlib.Core.Path.{_≡_, refl}
 use mathlib.Core.Bool.{Bool, true, false}
 use mathlib.Core.Option.{Option, none, some}
 use mathlib.Core.List.{List, [], _∷_}
-use Rattle.commands.specs.Stop.{Stop, first}
+use Rattle.commands.specs.Stop.{Stop}
+use Rattle.answers.specs.Answers.{first}
 
 module _ {b t : Bool} {r : Option Stop} (s : Stop) (ts : List (Bool × Stop)) (e : b ≡ t) where
   pub holds : b ≡ true → r ≡ some s → r ≡ first ((t, s) ∷ ts)
@@ -15,6 +16,6 @@ module _ {b t : Bool} {r : Option Stop} (s : Stop) (ts : List (Bool × Stop)) (e
   unfolding first
   passes h q = rw (← e, h) q
 
-pub ends : none ≡ first []
+pub ends : none ≡ first {A = Stop} []
 unfolding first
 ends = refl

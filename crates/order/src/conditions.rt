@@ -13,8 +13,8 @@ ghost use Rattle.commands.specs.Parameters.{listLengthKnown};
 ghost use Rattle.commands.specs.Kinds.{among, passesAttention, needsCartridge, writes};
 ghost use Rattle.commands.specs.Tests.{fieldError};
 use codes::Operation;
-use commands::HEADER_LENGTH;
-use commands::WHOLE_LENGTH;
+use kinds::HEADER_LENGTH;
+use kinds::WHOLE_LENGTH;
 use record::Drive;
 
 // Whether two commands are the same one, by their numbers.
@@ -33,7 +33,7 @@ pub fn attention_waits(o: Operation, d: Drive) -> bool
     if d.attention == record::NO_ATTENTION {
         return false;
     }
-    !commands::passes_attention(o)
+    !kinds::passes_attention(o)
 }
 
 // Whether a field of a served command is wrong, by the masks or beyond them.
@@ -44,7 +44,7 @@ pub fn is_any_field_wrong(o: Operation, d: Drive, cmd: &[u8]) -> bool
     if !codes::masks_hold(cmd) {
         return true;
     }
-    commands::is_field_wrong(o, d, cmd)
+    kinds::is_field_wrong(o, d, cmd)
 }
 
 // Whether a list length is 0, 4 or 12.
@@ -75,7 +75,7 @@ pub fn is_list_length_wrong(o: Operation, cmd: &[u8]) -> bool
 pub fn is_without_cartridge(o: Operation, d: Drive) -> bool
     ensures { λ r. ⌜ r ≡ needsCartridge o && eqb (d .loaded) 0 ⌝ }
 {
-    if !commands::needs_cartridge(o) {
+    if !kinds::needs_cartridge(o) {
         return false;
     }
     d.loaded == 0
@@ -99,7 +99,7 @@ pub fn is_partition_wrong(o: Operation, d: Drive, cmd: &[u8]) -> bool
 pub fn is_write_stopped(o: Operation, guarded: bool) -> bool
     ensures { λ r. ⌜ r ≡ writes o && guarded ⌝ }
 {
-    if !commands::writes(o) {
+    if !kinds::writes(o) {
         return false;
     }
     guarded

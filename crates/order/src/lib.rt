@@ -4,7 +4,7 @@ ghost use mathlib.Core.Bool.{true, false};
 ghost use Prim.Native.Nat.{_≤_};
 ghost use lib.ListN.{length, drop};
 ghost use Rattle.codes.specs.Codes.{codeOf, tooShort, operationOf};
-ghost use Rattle.commands.specs.Stop.{first};
+ghost use Rattle.answers.specs.Answers.{first};
 ghost use Rattle.commands.specs.Tests.{tests};
 ghost use Rattle.commands.specs.Kinds.{writes};
 ghost use Rattle.commands.specs.Act.{Seen};
@@ -99,7 +99,7 @@ pub fn stop_of(
     ensures { λ r. ⌜ ((v : Seen) → (writes o ≡ true → v .guarded ≡ guarded) → stopOf r ≡ first (tests o d (now (cmd .entry)) v (now (sent .entry)) (length (now (received .entry))))) ⌝ }
 {
     let waits = attention_waits(o, d);
-    let served = commands::is_served(o);
+    let served = kinds::is_served(o);
     if waits {
         return Stop::Attend;
     }

@@ -14,12 +14,12 @@ ghost use Rattle.commands.specs.Tests.{replyLength};
 ghost use Rattle.commands.specs.Tests.{taken as Tests·taken, needed as Tests·needed};
 use crate::conditions::is_same;
 use codes::Operation;
-use commands::HEADER_LENGTH;
-use commands::LIMITS_LENGTH;
-use commands::LONG_LENGTH;
-use commands::SHORT_FORM;
-use commands::SHORT_LENGTH;
-use commands::WHOLE_LENGTH;
+use kinds::HEADER_LENGTH;
+use kinds::LIMITS_LENGTH;
+use kinds::LONG_LENGTH;
+use kinds::SHORT_FORM;
+use kinds::SHORT_LENGTH;
+use kinds::WHOLE_LENGTH;
 use record::Drive;
 use sense::SENSE_LENGTH;
 
@@ -29,7 +29,7 @@ pub fn taken(o: Operation, d: Drive, cmd: &[u8]) -> u64
     ensures { λ r. ⌜ r ≡ Tests·taken o d (now (cmd .entry)) ⌝ }
 {
     if is_same(o, Operation::Write) {
-        return commands::bytes_asked(d, cmd);
+        return kinds::bytes_asked(d, cmd);
     }
     if is_same(o, Operation::ModeSelect) {
         return codes::allocation(cmd) as u64;
@@ -98,7 +98,7 @@ pub fn needed(o: Operation, d: Drive, cmd: &[u8]) -> u64
     ensures { λ r. ⌜ r ≡ Tests·needed o d (now (cmd .entry)) ⌝ }
 {
     if is_same(o, Operation::Read) {
-        return commands::bytes_asked(d, cmd);
+        return kinds::bytes_asked(d, cmd);
     }
     reply_length(o, cmd)
 }

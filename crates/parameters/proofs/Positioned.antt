@@ -17,10 +17,10 @@ use Rattle.record.specs.declared.drive.Drive.{Drive}
 use Rattle.codes.specs.declared.operation.Operation.the-variants.{ReadPosition}
 use Rattle.codes.specs.Fields.{formOf}
 use Rattle.commands.specs.Parameters.{shortPosition, longPosition}
-use Rattle.commands.specs.declared.deeds.Left.{Left}
+use Rattle.deeds.specs.declared.deeds.Left.{Left}
 use Rattle.commands.specs.Act.{Seen, carrying, good, zoneAt, shortForm, replyOf, act}
 use Rattle.commands.specs.Call.{seenOf}
-use Rattle.commands.specs.Left.{leftBy}
+use Rattle.deeds.specs.Left.{leftBy}
 
 -- no more filemarks than objects
 pub filemarks-fit : (s : List ℕ) → sound s ≡ true → (n m : ℕ) → n ≤ count s → m ≡ filemarksBefore s n → m < 2 ^ 32

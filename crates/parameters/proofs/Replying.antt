@@ -14,10 +14,10 @@ use Rattle.record.specs.Record.{noAttention}
 use Rattle.codes.specs.declared.operation.Operation.the-variants.{RequestSense, ReadBlockLimits, ModeSense}
 use Rattle.codes.specs.Fields.{allocationOf, dbdOf}
 use Rattle.commands.specs.Parameters.{blockLimits, modeData}
-use Rattle.commands.specs.declared.deeds.Left.{Left}
+use Rattle.deeds.specs.declared.deeds.Left.{Left}
 use Rattle.commands.specs.Act.{carrying, good, unattended, senseAsked, replyOf, act}
 use Rattle.commands.specs.Call.{nothing}
-use Rattle.commands.specs.Left.{leftBy, protectedOnly}
+use Rattle.deeds.specs.Left.{leftBy, protectedOnly}
 
 module _ (d : Drive) (b : List ℕ) where
   pub kept-asked : d .attention ≡ noAttention → b ≡ d .sense → b ≡ senseAsked d

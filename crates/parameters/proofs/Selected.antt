@@ -12,9 +12,9 @@ use Rattle.sense.specs.Sense.{illegalRequest, told}
 use Rattle.record.specs.declared.drive.Drive.{Drive}
 use Rattle.codes.specs.Fields.{allocationOf}
 use Rattle.commands.specs.Parameters.{wholeLength, listLengthKnown, listRight, newLength}
-use Rattle.commands.specs.declared.deeds.Left.{Left}
+use Rattle.deeds.specs.declared.deeds.Left.{Left}
 use Rattle.commands.specs.Act.{carrying, good, checked, withLength, selecting}
-use Rattle.commands.specs.Left.{leftBy}
+use Rattle.deeds.specs.Left.{leftBy}
 
 -- a list length that is known and not 0 is at least the header's
 pub known-least : (n : ℕ) → listLengthKnown n ≡ true → (n ≡ 0 → ⊥) → 4 ≤ n

@@ -2,9 +2,9 @@
 ghost use mathlib.Core.Path.{_≡_};
 ghost use mathlib.Core.Bool.{true, false, cond};
 ghost use Rattle.commands.specs.Parameters.{blockLimits, modeData};
-use commands::HEADER_LENGTH;
-use commands::LIMITS_LENGTH;
-use commands::WHOLE_LENGTH;
+use kinds::HEADER_LENGTH;
+use kinds::LIMITS_LENGTH;
+use kinds::WHOLE_LENGTH;
 
 // Granularity 0, the largest block in three bytes, the least in two.
 pub fn block_limits() -> [u8; LIMITS_LENGTH]

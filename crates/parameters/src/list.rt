@@ -3,8 +3,8 @@ ghost use mathlib.Core.Path.{_≡_};
 ghost use Prim.Native.Nat.{_≤_};
 ghost use lib.ListN.{length};
 ghost use Rattle.commands.specs.Parameters.{wholeLength, newLength, headerRight, descriptorRight, listRight};
-use commands::HEADER_LENGTH;
-use commands::WHOLE_LENGTH;
+use kinds::HEADER_LENGTH;
+use kinds::WHOLE_LENGTH;
 use words::be24_at;
 use words::be32_at;
 

@@ -10,10 +10,10 @@ ghost use Rattle.codes.specs.declared.operation.Operation.the-variants.{ReadPos
 ghost use Rattle.commands.specs.Parameters.{positionFlags, shortPosition, longPosition};
 ghost use Rattle.commands.specs.Act.{replyOf, act};
 ghost use Rattle.commands.specs.Call.{seenOf};
-ghost use Rattle.commands.specs.Left.{leftBy};
-use commands::LONG_LENGTH;
-use commands::Left;
-use commands::SHORT_LENGTH;
+ghost use Rattle.deeds.specs.Left.{leftBy};
+use deeds::Left;
+use kinds::LONG_LENGTH;
+use kinds::SHORT_LENGTH;
 use record::Drive;
 
 // BOP 80h, zone 40h.
@@ -104,13 +104,13 @@ pub fn read_position(s: &[u8], d: Drive, cmd: &[u8], received: &mut [u8]) -> Lef
 {
     let n = d.position as usize;
     let zone = image::in_zone(s, n);
-    if codes::form(cmd) == commands::SHORT_FORM {
+    if codes::form(cmd) == kinds::SHORT_FORM {
         let told = short_position(d.current, d.position, zone);
         words::copy_at(received, 0, &told);
-        return commands::good(d, SHORT_LENGTH as u32);
+        return deeds::good(d, SHORT_LENGTH as u32);
     }
     let filemarks = image::filemarks_before(s, n);
     let told = long_position(d.current, d.position, zone, filemarks as u32);
     words::copy_at(received, 0, &told);
-    commands::good(d, LONG_LENGTH as u32)
+    deeds::good(d, LONG_LENGTH as u32)
 }

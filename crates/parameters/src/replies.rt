@@ -7,11 +7,11 @@ ghost use Rattle.words.specs.Words.{over};
 ghost use Rattle.codes.specs.declared.operation.Operation.the-variants.{RequestSense, ReadBlockLimits, ModeSense};
 ghost use Rattle.commands.specs.Act.{senseAsked, replyOf, act};
 ghost use Rattle.commands.specs.Call.{nothing};
-ghost use Rattle.commands.specs.Left.{leftBy, protectedOnly};
+ghost use Rattle.deeds.specs.Left.{leftBy, protectedOnly};
 use crate::data::block_limits;
 use crate::data::mode_data;
 use crate::data::mode_header;
-use commands::Left;
+use deeds::Left;
 use record::Drive;
 use sense::SENSE_LENGTH;
 
@@ -33,7 +33,7 @@ pub fn request_sense(d: Drive, cmd: &[u8], received: &mut [u8]) -> Left
     let asked = sense_asked(d);
     let n = codes::allocation(cmd);
     let carried = words::copy_limited(received, &asked, n as usize);
-    commands::good(commands::unattended(d), carried as u32)
+    deeds::good(deeds::unattended(d), carried as u32)
 }
 
 // READ BLOCK LIMITS, with a receiving buffer that is long enough.
@@ -43,7 +43,7 @@ pub fn read_block_limits(d: Drive, received: &mut [u8]) -> Left
 {
     let limits = block_limits();
     words::copy_at(received, 0, &limits);
-    commands::good(d, commands::LIMITS_LENGTH as u32)
+    deeds::good(d, kinds::LIMITS_LENGTH as u32)
 }
 
 // MODE SENSE of a partition that is protected or not, with a receiving buffer that is long enough.
@@ -55,9 +55,9 @@ pub fn mode_sense(d: Drive, cmd: &[u8], guarded: bool, received: &mut [u8]) -> L
     if codes::dbd(cmd) {
         let header = mode_header(guarded);
         let carried = words::copy_limited(received, &header, n as usize);
-        return commands::good(d, carried as u32);
+        return deeds::good(d, carried as u32);
     }
     let data = mode_data(guarded, d.block_length);
     let carried = words::copy_limited(received, &data, n as usize);
-    commands::good(d, carried as u32)
+    deeds::good(d, carried as u32)
 }

@@ -6,10 +6,10 @@ ghost use lib.ListN.{length};
 ghost use Rattle.codes.specs.Fields.{allocationOf};
 ghost use Rattle.commands.specs.Parameters.{listLengthKnown};
 ghost use Rattle.commands.specs.Act.{selecting, withLength};
-ghost use Rattle.commands.specs.Left.{leftBy};
+ghost use Rattle.deeds.specs.Left.{leftBy};
 use crate::list::is_list_right;
 use crate::list::new_length;
-use commands::Left;
+use deeds::Left;
 use record::Drive;
 
 // The drive with block length n.
@@ -28,7 +28,7 @@ pub fn select(d: Drive, cmd: &[u8], sent: &[u8]) -> Left
 {
     let n = codes::allocation(cmd);
     if n == 0 {
-        return commands::good(d, 0);
+        return deeds::good(d, 0);
     }
     if !is_list_right(n, sent) {
         let told = sense::told(
@@ -42,10 +42,10 @@ pub fn select(d: Drive, cmd: &[u8], sent: &[u8]) -> Left
             0,
             0,
         );
-        return commands::checked(d, told, 0);
+        return deeds::checked(d, told, 0);
     }
-    if n as usize == commands::WHOLE_LENGTH {
-        return commands::good(with_length(d, new_length(sent)), n as u32);
+    if n as usize == kinds::WHOLE_LENGTH {
+        return deeds::good(with_length(d, new_length(sent)), n as u32);
     }
-    commands::good(d, n as u32)
+    deeds::good(d, n as u32)
 }

@@ -24,13 +24,13 @@ use Rattle.image.proofs.Objects.{length-objects, ahead-step}
 use Rattle.record.specs.declared.drive.Drive.{Drive}
 use Rattle.codes.specs.declared.operation.Operation.the-variants.{Read}
 use Rattle.codes.specs.Fields.{fixedOf, siliOf, transferOf}
-use Rattle.commands.specs.declared.deeds.Left.{Left}
+use Rattle.deeds.specs.declared.deeds.Left.{Left}
 use Rattle.objects.specs.Transfer.{runOf}
 use Rattle.image.proofs.Lies.{lies}
 use Rattle.commands.specs.Act.{Seen, Deed, carrying, good, checked, at, filemarkMet, endMet, oddMet, hidden, readBlock, readVariable, readRun, reading}
 use Rattle.commands.specs.Tests.{bytesAsked, fieldError}
 use Rattle.commands.specs.Call.{seenOf}
-use Rattle.commands.specs.Left.{leftBy}
+use Rattle.deeds.specs.Left.{leftBy}
 
 -- ---- SILI
 

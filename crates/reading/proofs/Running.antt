@@ -22,9 +22,9 @@ use Rattle.transfer.specs.declared.runs.Ended.the-variants.{Whole, OddLength, A
 use Rattle.transfer.specs.declared.runs.Blocks.{Blocks}
 use Rattle.objects.specs.Transfer.{oddLength, Run, halted, wholeBefore, runOf}
 use Rattle.transfer.specs.Runs.{runWith}
-use Rattle.commands.specs.declared.deeds.Left.{Left}
+use Rattle.deeds.specs.declared.deeds.Left.{Left}
 use Rattle.commands.specs.Act.{Seen, carrying, good, checked, at, filemarkMet, endMet, oddMet, runTells, readRun}
-use Rattle.commands.specs.Left.{leftBy}
+use Rattle.deeds.specs.Left.{leftBy}
 
 -- ---- how far a run reaches
 

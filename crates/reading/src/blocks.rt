@@ -13,8 +13,8 @@ ghost use Rattle.transfer.specs.Runs.{runWith};
 ghost use Rattle.commands.specs.Act.{hidden, carrying, readBlock, readVariable, readRun, reading};
 ghost use Rattle.commands.specs.Tests.{bytesAsked, fieldError};
 ghost use Rattle.commands.specs.Call.{seenOf};
-ghost use Rattle.commands.specs.Left.{leftBy};
-use commands::Left;
+ghost use Rattle.deeds.specs.Left.{leftBy};
+use deeds::Left;
 use record::Drive;
 use transfer::Blocks;
 use transfer::Ended;
@@ -25,15 +25,15 @@ fn run_leaves(s: &[u8], d: Drive, n: u32, run: Blocks, carried: u32) -> Left
     requires { ⌜ (sound (now s) ≡ true) × (d .position + run .crossed < 2 ^ 32) ⌝ }
     ensures { λ r. ⌜ r ≡ leftBy (carrying carried (readRun d (seenOf (now (s .entry))) n (runWith run []))) ⌝ }
 {
-    let e = commands::at(d, d.position + run.crossed);
+    let e = deeds::at(d, d.position + run.crossed);
     let blocks = run.blocks;
     let why = run.why;
     match why {
-        Ended::Whole => commands::good(e, carried),
+        Ended::Whole => deeds::good(e, carried),
         // Crossed, but not among the blocks that were read.
-        Ended::OddLength => commands::checked(e, commands::odd_met(n, blocks), carried),
-        Ended::AtFilemark => commands::checked(e, commands::filemark_met(n, blocks), carried),
-        Ended::AtEnd => commands::checked(e, commands::end_met(s, n, blocks), carried),
+        Ended::OddLength => deeds::checked(e, deeds::odd_met(n, blocks), carried),
+        Ended::AtFilemark => deeds::checked(e, deeds::filemark_met(n, blocks), carried),
+        Ended::AtEnd => deeds::checked(e, deeds::end_met(s, n, blocks), carried),
     }
 }
 
@@ -67,14 +67,14 @@ fn read_block(d: Drive, cmd: &[u8], n: u32, block: &[u8], received: &mut [u8]) -
 {
     let size = block.len() as u32;
     let carried = words::copy_limited(received, block, n as usize) as u32;
-    let e = commands::at(d, d.position + 1);
+    let e = deeds::at(d, d.position + 1);
     if size == n {
-        return commands::good(e, carried);
+        return deeds::good(e, carried);
     }
     if is_hidden(d, cmd, n, size) {
-        return commands::good(e, carried);
+        return deeds::good(e, carried);
     }
-    commands::checked(e, commands::odd_met(n, size), carried)
+    deeds::checked(e, deeds::odd_met(n, size), carried)
 }
 
 // READ without FIXED, of n bytes: what lies at the position decides.
@@ -84,12 +84,12 @@ fn read_variable(s: &[u8], d: Drive, cmd: &[u8], n: u32, received: &mut [u8]) ->
 {
     let p = d.position;
     if image::count_of(s) <= p {
-        return commands::checked(d, commands::end_met(s, n, 0), 0);
+        return deeds::checked(d, deeds::end_met(s, n, 0), 0);
     }
     let i = p as usize;
     if image::is_filemark(s, i) {
-        let filemark = commands::filemark_met(n, 0);
-        return commands::checked(commands::at(d, p + 1), filemark, 0);
+        let filemark = deeds::filemark_met(n, 0);
+        return deeds::checked(deeds::at(d, p + 1), filemark, 0);
     }
     let from = image::end_at(s, i) as usize;
     let to = image::end_at(s, i + 1) as usize;
@@ -103,7 +103,7 @@ pub fn read(s: &[u8], d: Drive, cmd: &[u8], received: &mut [u8]) -> Left
 {
     let n = codes::transfer(cmd);
     if n == 0 {
-        return commands::good(d, 0);
+        return deeds::good(d, 0);
     }
     if codes::fixed(cmd) {
         return read_fixed(s, d, n, received);

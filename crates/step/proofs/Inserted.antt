@@ -14,7 +14,7 @@ use Rattle.image.proofs.Facts.{sound-parts}
 use Rattle.record.specs.declared.drive.Drive.{Drive}
 use Rattle.record.specs.Record.{wellFormed}
 use Rattle.commands.specs.Call.{inserted}
-use Rattle.laws.proofs.Faultless.{loaded}
+use Rattle.commands.proofs.Faultless.{loaded}
 
 pub long-trailed : (p : List ℕ) (b : Bool) → b ≡ sound p → not b ≡ false → trailerLength ≤ length p
 long-trailed p b e h = let w = sound-parts p (sym e ∙ not-false b h) in omega (arith, w .least)

@@ -18,8 +18,8 @@ use Rattle.codes.specs.Fields.{changesPartition, partitionOf}
 use Rattle.commands.specs.Kinds.{locates, writes}
 use Rattle.commands.specs.Act.{targetOf}
 use Rattle.commands.specs.Call.{Lent, lent, partition, looksAt, seenOf, nothing, seen, inserted}
-use Rattle.laws.proofs.Classes.{not-locate}
-use Rattle.laws.proofs.Faultless.{loaded, empty-handed, well-of, inside, sound-there, looks-in, seen-there}
+use Rattle.commands.proofs.Classes.{not-locate}
+use Rattle.commands.proofs.Faultless.{loaded, empty-handed, well-of, inside, sound-there, looks-in, seen-there}
 use Rattle.step.specs.Served.{guardedNow}
 
 -- ---- the partition that a command looks at

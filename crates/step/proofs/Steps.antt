@@ -10,34 +10,33 @@ use borrow.Author.Tests.{ne-eqb}
 use lib.Dec.{eqb}
 use lib.ListN.{length}
 use Rattle.answers.specs.declared.Answer.{Answer}
-use Rattle.answers.specs.Answers.{refused}
+use Rattle.answers.specs.Answers.{refused, first}
 use Rattle.sense.specs.Sense.{senseBytes, plainly, attentionSense}
 use Rattle.record.specs.declared.drive.Drive.{Drive}
 use Rattle.record.specs.Record.{wellFormed, withSense}
 use Rattle.codes.specs.declared.operation.Operation.{Operation}
 use Rattle.codes.specs.declared.operation.Operation.the-variants.{Locate}
 use Rattle.codes.specs.Codes.{codeOf, tooShort, numberOf, operationOf}
-use Rattle.commands.specs.declared.deeds.Left.{Left}
+use Rattle.deeds.specs.declared.deeds.Left.{Left}
 use Rattle.commands.specs.Stop as S
-use Rattle.commands.specs.Stop.{first}
 use Rattle.commands.specs.Kinds.{needsCartridge, writes}
 use Rattle.commands.specs.Tests.{tests}
 use Rattle.commands.specs.Act.{Seen, unattended, targetOf}
 use Rattle.commands.specs.Step.{checkAnswer, stopped, acted}
 use Rattle.commands.specs.Call.{lent, partition, looksAt, seenOf, nothing, seen, inserted, outcome, laidOut, applied, stepOf}
-use Rattle.commands.specs.Left.{protectedOnly}
+use Rattle.deeds.specs.Left.{protectedOnly}
 use Rattle.order.specs.declared.Stop.{Stop}
 use Rattle.order.specs.declared.Stop.the-variants.{Refuse, Attend, Fault, Pass}
 use Rattle.order.specs.Stops.{stopOf}
 use Rattle.commands.proofs.Long.{locate-long}
-use Rattle.laws.proofs.Classes.{named, unchanged}
-use Rattle.laws.proofs.Exact.{step-stops, step-acts}
+use Rattle.commands.proofs.Classes.{named, unchanged}
+use Rattle.commands.proofs.Ends.{step-stops, step-acts}
 use Rattle.step.specs.declared.stepping.Served.{Served}
 use Rattle.step.specs.Served.{outcomeOf, answerOf, guardedNow}
 use Rattle.acting.specs.Ready.{Free, Ready, ReadyApart}
 use Rattle.acting.proofs.Asked.{pass}
 use Rattle.acting.proofs.Acts.{Acts, Apart, no-writing}
-use Rattle.laws.proofs.Faultless.{small-block}
+use Rattle.commands.proofs.Faultless.{small-block}
 use Rattle.step.proofs.Looked.{sound-looked, place-looked, seen-loaded, seen-unloaded, guarded-alike}
 
 -- ---- the partition looked at

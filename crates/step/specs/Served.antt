@@ -8,7 +8,7 @@ use Rattle.answers.specs.Answers.{answered}
 use Rattle.image.specs.Image.{protected}
 use Rattle.record.specs.declared.drive.Drive.{Drive}
 use Prim.Native.Nat.{ℕ}
-use Rattle.commands.specs.declared.deeds.Left.{Left}
+use Rattle.deeds.specs.declared.deeds.Left.{Left}
 use Rattle.commands.specs.Call.{Lent, Outcome, outcome, partition}
 use Rattle.step.specs.declared.stepping.Served.{Served}
 

@@ -14,7 +14,7 @@ use acting::act_apart;
 use acting::act_on;
 use answers::Answer;
 use codes::Operation;
-use commands::Left;
+use deeds::Left;
 use order::Stop;
 use record::Drive;
 use sense::SENSE_LENGTH;
@@ -62,7 +62,7 @@ fn looks_at(o: Operation, d: Drive, cmd: &[u8]) -> u8
     ensures { λ r. ⌜ r ≡ looksAt o d (now (cmd .entry)) ⌝ }
 {
     if codes::number_of(o) == codes::LOCATE {
-        return commands::target_of(d, cmd);
+        return deeds::target_of(d, cmd);
     }
     d.current
 }
@@ -120,7 +120,7 @@ fn step(
     let stop = order::stop_of(o, d, cmd, guarded, sent, received);
     match stop {
         Stop::Refuse(number) => refuses(d, number),
-        Stop::Attend => checks(commands::unattended(d), sense::of_attention(d.attention)),
+        Stop::Attend => checks(deeds::unattended(d), sense::of_attention(d.attention)),
         Stop::Fault(key, asc, ascq) => checks(d, sense::plainly(key, asc, ascq)),
         Stop::Pass => acts(o, d, cmd, p0, p1, sent, received),
     }

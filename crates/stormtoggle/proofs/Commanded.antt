@@ -9,14 +9,15 @@ use mathlib.Core.List.{List}
 use borrow.Author.Tests.{eq-eqb, ne-eqb}
 use lib.ListN.{length}
 use Rattle.answers.specs.declared.Answer.{Answer}
-use Rattle.answers.specs.Answers.{refused, packed}
+use Rattle.answers.specs.Answers.{refused, packed, first}
 use Rattle.record.specs.declared.drive.Drive.{Drive}
 use Rattle.record.specs.Record.{recordLength, wellRecord, decodeOf, encodeOf}
 use Rattle.record.proofs.Judged.{no-record}
 use Rattle.codes.specs.Codes.{tooShort}
-use Rattle.commands.specs.Stop.{refuse, first}
+use Rattle.commands.specs.Stop.{refuse}
 use Rattle.commands.specs.Call.{Lent, Result, result, written, driveCall, commandTests, commandCall}
-use Rattle.laws.proofs.Exact.{first-at, call-stops, refused-leaves}
+use Rattle.answers.proofs.First.{first-at}
+use Rattle.commands.proofs.Ends.{call-stops, refused-leaves}
 use Rattle.step.specs.declared.stepping.Served.{Served}
 use Rattle.step.specs.Served.{outcomeOf}
 use Rattle.stormtoggle.specs.Calls.{returned, numberedResult}
@@ -31,11 +32,11 @@ module _ (rec : List ℕ) (x : Lent) where
   module _ (t : Bool) (et : t ≡ tooShort (x .cmd)) where
     pub short-so : t ≡ true → (a : Answer) → a ≡ refused 1 → result a rec x ≡ commandCall rec x
     unfolding commandTests
-    short-so h a ea = refused-so 1 (first-at (commandTests rec x) 0 (sym et ∙ h)) (λ z. omega arith) a ea
+    short-so h a ea = refused-so 1 (first-at (commandTests rec x) 0 (tt, sym et ∙ h)) (λ z. omega arith) a ea
 
     pub length-so : t ≡ false → (length rec ≡ recordLength → ⊥) → (a : Answer) → a ≡ refused 4 → result a rec x ≡ commandCall rec x
     unfolding commandTests
-    length-so h k a ea = refused-so 4 (first-at (commandTests rec x) 1 (sym et ∙ h, rw (← no-record rec k) refl)) (λ z. omega arith) a ea
+    length-so h k a ea = refused-so 4 (first-at (commandTests rec x) 1 ((tt, sym et ∙ h), rw (← no-record rec k) refl)) (λ z. omega arith) a ea
 
   module _ (k : length rec ≡ recordLength) (d : Drive) (ed : d ≡ decodeOf rec) (s : Served) (y : Lent) (es : outcomeOf s y ≡ driveCall d x) where
     -- of a record of the right length, the call is that of its drive

@@ -24,11 +24,11 @@ use Rattle.codes.specs.Fields.{fixedOf, transferOf, longOf}
 use Rattle.sense.specs.declared.Sense.{Sense}
 use Rattle.objects.specs.Transfer.{blocksOf, marksOf, fitting, putFrom}
 use Rattle.changes.proofs.Down.{Down, AllHoldable, down, down-inside, marks-kept}
-use Rattle.commands.specs.declared.deeds.Left.{Left}
+use Rattle.deeds.specs.declared.deeds.Left.{Left}
 use Rattle.commands.specs.Act.{Deed, carrying, checked, good, at, warned, overflowed, offered, goesDown, wrote, writing, marking, eventsOf}
 use Rattle.commands.specs.Step.{acted}
 use Rattle.commands.specs.Call.{seenOf, laidOut}
-use Rattle.commands.specs.Left.{leftBy}
+use Rattle.deeds.specs.Left.{leftBy}
 
 -- ---- what the numbers tell, of the partition t after the objects
 

@@ -9,8 +9,8 @@ ghost use Rattle.codes.specs.declared.operation.Operation.the-variants.{Erase};
 ghost use Rattle.commands.specs.Act.{act};
 ghost use Rattle.commands.specs.Step.{acted};
 ghost use Rattle.commands.specs.Call.{seenOf, laidOut};
-ghost use Rattle.commands.specs.Left.{leftBy};
-use commands::Left;
+ghost use Rattle.deeds.specs.Left.{leftBy};
+use deeds::Left;
 use record::Drive;
 
 // ERASE at the position of a sound partition.
@@ -21,8 +21,8 @@ pub fn erase(s: &mut [u8], d: Drive, cmd: &[u8]) -> Left
     let n = d.position as usize;
     if codes::long(cmd) {
         changes::cut_clearing(s, n);
-        return commands::good(d, 0);
+        return deeds::good(d, 0);
     }
     changes::cut(s, n);
-    commands::good(d, 0)
+    deeds::good(d, 0)
 }

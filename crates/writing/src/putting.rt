@@ -13,8 +13,8 @@ ghost use Rattle.codes.specs.declared.operation.Operation.the-variants.{Write, 
 ghost use Rattle.commands.specs.Act.{carrying, checked, good, at, warned, overflowed, writing, marking, eventsOf};
 ghost use Rattle.commands.specs.Tests.{bytesAsked, fieldError};
 ghost use Rattle.commands.specs.Call.{seenOf};
-ghost use Rattle.commands.specs.Left.{leftBy};
-use commands::Left;
+ghost use Rattle.deeds.specs.Left.{leftBy};
+use deeds::Left;
 use record::Drive;
 use transfer::put_blocks;
 use transfer::put_filemarks;
@@ -29,14 +29,14 @@ fn wrote(s: &[u8], d: Drive, n: u32, put: u32, request: u32, actual: u32, carrie
 {
     let from = d.position;
     let there = from + put;
-    let e = commands::at(d, there);
+    let e = deeds::at(d, there);
     if put != n {
-        return commands::checked(e, commands::overflowed(request, actual), carried);
+        return deeds::checked(e, deeds::overflowed(request, actual), carried);
     }
     if image::in_zone(s, there as usize) {
-        return commands::checked(e, commands::warned(), carried);
+        return deeds::checked(e, deeds::warned(), carried);
     }
-    commands::good(e, carried)
+    deeds::good(e, carried)
 }
 
 // WRITE at the position of a sound partition, with fields that are right and as many bytes sent as it takes. A variable WRITE asks for one block
@@ -47,7 +47,7 @@ pub fn write(s: &mut [u8], d: Drive, cmd: &[u8], sent: &[u8]) -> Left
 {
     let n = codes::transfer(cmd);
     if n == 0 {
-        return commands::good(d, 0);
+        return deeds::good(d, 0);
     }
     if codes::fixed(cmd) {
         let b = d.block_length;
@@ -65,7 +65,7 @@ pub fn write_filemarks(s: &mut [u8], d: Drive, cmd: &[u8]) -> Left
 {
     let marks = codes::transfer(cmd);
     if marks == 0 {
-        return commands::good(d, 0);
+        return deeds::good(d, 0);
     }
     let put = put_filemarks(s, d.position, marks);
     wrote(s, d, marks, put, marks, put, 0)

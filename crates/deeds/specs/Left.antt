@@ -1,0 +1,15 @@
+-- What stands of a deed when the call returns: the drive with its kept sense replaced, the status, the bytes carried.
+-- Assumes nothing: these are definitions.
+use mathlib.Core.Bool.{Bool}
+use mathlib.Core.List.{[]}
+use Rattle.record.specs.Record.{withSense}
+use Rattle.deeds.specs.declared.deeds.Left.{Left}
+use Rattle.commands.specs.Act.{Seen, Deed}
+use Rattle.commands.specs.Step.{statusOf, keptOf}
+
+abbrev pub leftBy : Deed → Left
+leftBy e = record { drive = withSense (e .drive) (keptOf (e .tells)); status = statusOf (e .tells); carried = e .carried }
+
+-- what MODE SENSE looks at of a partition: its protection
+abbrev pub protectedOnly : Bool → Seen
+protectedOnly g = record { size = 0; guarded = g; objects = [] }
