@@ -120,7 +120,7 @@ over-test : (l w : Bool) {L W : Type 0} → Decides l L → Decides (not w) W �
 over-test true w dl dw = ((λ h. (dl .0 refl, dw .0 h)), (λ h. dw .1 (h .1)))
 over-test false w dl dw = ((λ h. absurd (not-both (sym h))), (λ h. absurd (not-both (sym (dl .1 (h .0))))))
 
-above-test : (n m : ℕ) → Decides (not (leb n m)) (m < n)
+pub above-test : (n m : ℕ) → Decides (not (leb n m)) (m < n)
 above-test n m = let t = no-test (leb n m) (most-test n m) in ((λ h. let f = t .0 h in omega arith), (λ h. t .1 (λ g. omega arith)))
 
 -- ---- the tests of a command, each with the condition that it stands for
@@ -265,7 +265,37 @@ module _ (rec : List ℕ) (x : Lent) where
   unfolding commandTests tests
   acts = Iff·trans (none-held T, none-holds T) (given comes-3 (λ _. fails _ (less-test (length (x .received)) (needed o d (x .cmd)))))
 
-  -- ---- which test gives which stop
+  -- ---- which test is the first that holds, by the list and by 01's order
+
+  pub at-attention : FirstAt T 2 ↔ (ComesAttention rec x × AttentionWaits rec x)
+  unfolding commandTests tests
+  at-attention = given comes-attention (λ _. attention-test)
+
+  pub at-code : FirstAt T 3 ↔ (ComesCode rec x × CodeNotServed rec x)
+  unfolding commandTests tests
+  at-code = given comes-code (λ _. code-test)
+
+  pub at-fields : FirstAt T 4 ↔ (ComesFields rec x × FieldWrong rec x)
+  unfolding commandTests tests
+  at-fields = given comes-fields (λ _. field-test)
+
+  pub at-list-length : FirstAt T 5 ↔ (ComesListLength rec x × ListLengthWrong rec x)
+  unfolding commandTests tests
+  at-list-length = given comes-list-length (λ _. list-test)
+
+  pub at-cartridge : FirstAt T 6 ↔ (ComesCartridge rec x × NothingLoaded rec x)
+  unfolding commandTests tests
+  at-cartridge = given comes-cartridge (λ _. loaded-test)
+
+  pub at-partition : FirstAt T 7 ↔ (ComesPartition rec x × NoSuchPartition rec x)
+  unfolding commandTests tests
+  at-partition = given comes-partition (λ _. partition-test)
+
+  pub at-protection : FirstAt T 8 ↔ (ComesProtection rec x × WriteProtected rec x)
+  unfolding commandTests tests
+  at-protection = given comes-protection protect-test
+
+  -- ---- which test gives which refusal
 
   -- each refusal's place in the list
   abbrev place : ℕ → ℕ

@@ -1,1 +1,7 @@
 pub mod Determined
+pub mod House
+pub mod Tells
+pub mod Senses
+pub mod Carried
+pub mod Small
+pub mod Numbers

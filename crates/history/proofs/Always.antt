@@ -111,7 +111,7 @@ module _ (rec : List ℕ) (x : Lent) (w : Well (decodeOf rec) (x .part0) (x .par
       let p : List ℕ = partition (targetOf (decodeOf rec) (x .cmd)) (x .part0) (x .part1) in
       rw (seen-there Locate (decodeOf rec) x t) (located-well (decodeOf rec) (x .part0) (x .part1) (x .cmd) (seenOf p) w z t (length-objects p))
 
-  acts-after : (o : Operation) → Passes o → After o
+  pub acts-after : (o : Operation) → Passes o → After o
   unfolding act looksAt
   acts-after Write q = put-after Write q refl refl (is-loaded Write refl q) (writing-drive (decodeOf rec) (x .cmd) (x .sent) _)
   acts-after WriteFilemarks q = put-after WriteFilemarks q refl refl (is-loaded WriteFilemarks refl q) (marking-drive (decodeOf rec) (x .cmd) (x .sent) _)

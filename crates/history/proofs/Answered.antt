@@ -43,7 +43,7 @@ unfolding bytesPut putFrom bytesIn
 puts-bytes n [] = refl
 puts-bytes n (o ∷ os) = ap (λ (k : ℕ). length (dataOf o) + k) (puts-bytes (suc n) os)
 
-writing-carried : (d : Drive) (cmd sent : List ℕ) (v : Seen) → (writing d cmd sent v) .carried ≡ bytesIn (goesDown Write d cmd sent v)
+pub writing-carried : (d : Drive) (cmd sent : List ℕ) (v : Seen) → (writing d cmd sent v) .carried ≡ bytesIn (goesDown Write d cmd sent v)
 unfolding writing bytesIn
 writing-carried d cmd sent v = go (eqb (transferOf cmd) 0) refl
   where

@@ -77,7 +77,7 @@ reads-so b rec p0 p1 sent received f l a r =
 
 -- ---- what its answer, sense and buffer tell
 
-told-held : (counts f e i : Bool) (key asc ascq : ℕ) (z : ℤ) → key < 16 → Spellable (told counts f e i key asc ascq z)
+pub told-held : (counts f e i : Bool) (key asc ascq : ℕ) (z : ℤ) → key < 16 → Spellable (told counts f e i key asc ascq z)
 unfolding told
 told-held counts f e i key asc ascq z h = record { key-small = h; information-small = go (reports counts key) }
   where

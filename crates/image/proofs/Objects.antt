@@ -4,14 +4,16 @@
 use Prim.Native.Nat.{ℕ, zero, suc, _+_, _-_, _<_, _≤_}
 use mathlib.Core.Bool.{Bool, true, false, cond}
 use mathlib.Core.Path.{_≡_, refl, sym, ap, ap₂, _∙_}
+use mathlib.Core.Option.{none, some}
 use mathlib.Core.List.{List, [], _∷_, _++_}
 use native.Mathlib.Nat.{not-suc-le-zero, le-refl}
 use native.Mathlib.Omega.{arith}
 use native.Mathlib.Decide.{decLe}
-use lib.ListN.{length, take, drop, getD, length-append, List·getD-append}
+use lib.ListN.{length, take, drop, getD, getElem?, length-append, List·getD-append}
 use lib.Seq.{slice, length-slice, take-append-le, take-all, drop-cons, getD-at}
 use Rattle.objects.specs.Object.{Object, filemark, block, isFilemark, dataOf, bytesIn, filemarksIn}
 use Rattle.objects.specs.Movement.{before}
+use Rattle.objects.proofs.Standing.{get-past}
 use Rattle.objects.proofs.Count.{bytes-snoc, filemarks-snoc}
 use Rattle.image.specs.Image.{count, entry, topBit, endAt, objectAt, upto, objects, filemarksBefore}
 use Rattle.image.proofs.Facts.{Sound, ordered-at, follows-same, follows-size, ends-in}
@@ -71,6 +73,19 @@ ahead-step s p h =
 pub behind-step : (s : List ℕ) (p : ℕ) → p < count s → before (suc p) (objects s) ≡ objectAt s p ∷ before p (objects s)
 unfolding before
 behind-step s p h = ap (λ (o : Object). o ∷ before p (objects s)) (object-is s p filemark h)
+
+-- the object at a number, and none behind the last
+get-drop : (xs : List Object) (p : ℕ) → getElem? xs p ≡ getElem? (drop p xs) 0
+get-drop [] zero = refl
+get-drop [] (suc p) = refl
+get-drop (x ∷ xs) zero = refl
+get-drop (x ∷ xs) (suc p) = get-drop xs p
+
+pub object-there : (s : List ℕ) (p : ℕ) → p < count s → getElem? (objects s) p ≡ some (objectAt s p)
+object-there s p h = get-drop (objects s) p ∙ ap (λ (xs : List Object). getElem? xs 0) (ahead-step s p h)
+
+pub object-past : (s : List ℕ) (p : ℕ) → count s ≤ p → getElem? (objects s) p ≡ none
+object-past s p h = get-past (objects s) p (omega (arith, length-objects s))
 
 -- ---- one object: its data's length, and whether it is a filemark
 

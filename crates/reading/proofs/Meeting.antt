@@ -17,10 +17,9 @@ use Rattle.words.proofs.Laws.{over-nil, part-is}
 use Rattle.words.proofs.Wraps.{subℕ-cases}
 use Rattle.sense.specs.declared.Sense.{Sense}
 use Rattle.objects.specs.Object.{Object, filemark, block}
-use Rattle.objects.proofs.Standing.{get-past}
 use Rattle.image.specs.Image.{count, entry, topBit, endAt, objectAt, objects, sound}
 use Rattle.image.proofs.Judged.{never-both}
-use Rattle.image.proofs.Objects.{length-objects, ahead-step}
+use Rattle.image.proofs.Objects.{object-there, object-past}
 use Rattle.record.specs.declared.drive.Drive.{Drive}
 use Rattle.codes.specs.declared.operation.Operation.the-variants.{Read}
 use Rattle.codes.specs.Fields.{fixedOf, siliOf, transferOf}
@@ -74,25 +73,13 @@ module _ (d e : Drive) (cmd b : List ℕ) (n k : ℕ) (en : n ≡ transferOf cmd
 
 -- ---- what lies at a position
 
-get-drop : (xs : List Object) (p : ℕ) → getElem? xs p ≡ getElem? (drop p xs) 0
-get-drop [] zero = refl
-get-drop [] (suc p) = refl
-get-drop (x ∷ xs) zero = refl
-get-drop (x ∷ xs) (suc p) = get-drop xs p
-
-there : (s : List ℕ) (p : ℕ) → p < count s → getElem? (objects s) p ≡ some (objectAt s p)
-there s p h = get-drop (objects s) p ∙ ap (λ (xs : List Object). getElem? xs 0) (ahead-step s p h)
-
-past : (s : List ℕ) (p : ℕ) → count s ≤ p → getElem? (objects s) p ≡ none
-past s p h = get-past (objects s) p (omega (arith, length-objects s))
-
 filemark-there : (s : List ℕ) (p : ℕ) → p < count s → topBit (entry s p) ≡ true → getElem? (objects s) p ≡ some filemark
 unfolding objectAt
-filemark-there s p h t = there s p h ∙ rw t refl
+filemark-there s p h t = object-there s p h ∙ rw t refl
 
 block-there : (s : List ℕ) (p from to : ℕ) → sound s ≡ true → p < count s → topBit (entry s p) ≡ false → from ≡ endAt s p → to ≡ endAt s (p + 1) → getElem? (objects s) p ≡ some (block (take (to - from) (drop from s)))
 unfolding objectAt
-block-there s p from to k h t ef et = there s p h ∙ rw (t, ef, et, part-is (endAt s p) (endAt s (p + 1)) s (lies s k p h .grows), add-one p) refl
+block-there s p from to k h t ef et = object-there s p h ∙ rw (t, ef, et, part-is (endAt s p) (endAt s (p + 1)) s (lies s k p h .grows), add-one p) refl
 
 -- a request of which nothing was read
 all-left : (n : ℕ) → subℕ n 0 ≡ pos n
@@ -108,7 +95,7 @@ done-as x y e r a b h = rw e h
 module _ (d : Drive) (cmd s x : List ℕ) (n : ℕ) (v : Seen) (en : n ≡ transferOf cmd) (r : Left) where
   pub meets-end : count s ≤ d .position → (t : Sense) → t ≡ endMet v (subℕ n 0) → r ≡ leftBy (carrying 0 (checked d t)) → (r ≡ leftBy (readVariable d cmd v (getElem? (objects s) (d .position)))) × (x ≡ over x 0 (readVariable d cmd v (getElem? (objects s) (d .position)) .received))
   unfolding readVariable
-  meets-end h t et q = rw (past s (d .position) h) (q ∙ rw (et, all-left n, en) refl, sym (over-nil x 0))
+  meets-end h t et q = rw (object-past s (d .position) h) (q ∙ rw (et, all-left n, en) refl, sym (over-nil x 0))
 
   module _ (h : d .position < count s) (m : Bool) (em : m ≡ topBit (entry s (d .position))) where
     pub meets-filemark : m ≡ true → (e : Drive) → e ≡ at d (d .position + 1) → (t : Sense) → t ≡ filemarkMet (subℕ n 0) → r ≡ leftBy (carrying 0 (checked e t)) → (r ≡ leftBy (readVariable d cmd v (getElem? (objects s) (d .position)))) × (x ≡ over x 0 (readVariable d cmd v (getElem? (objects s) (d .position)) .received))

@@ -1,0 +1,160 @@
+-- What an act may tell: always by `told`, counting for READ, WRITE, WRITE FILEMARKS and SPACE alone, and never what only a test tells.
+-- Assumes nothing.
+use Prim.Native.Nat.{ℕ, zero, suc, _+_, _<_, _^_}
+use mathlib.Core.Path.{_≡_, refl, sym, ap, _∙_, subst}
+use mathlib.Core.Logic.{_⊎_, inl, inr}
+use mathlib.Core.Bool.{Bool, true, false, cond, not, _&&_, _||_}
+use mathlib.Core.Option.{Option, none, some}
+use mathlib.Core.List.{List, [], _∷_}
+use native.Mathlib.Omega.{arith}
+use lib.Dec.{eqb}
+use lib.IntN.{ℤ, pos, negsuc, subℕ}
+use lib.ListN.{length, take, drop, getElem?}
+use Rattle.objects.specs.Object.{Object, filemark, block, bytesIn}
+use Rattle.objects.specs.Movement as M
+use Rattle.objects.specs.Room.{roomOf, zoneIn}
+use Rattle.objects.specs.Transfer.{Ended, whole, oddLength, atFilemark, atEnd, runOf}
+use Rattle.sense.specs.declared.Sense.{Sense}
+use Rattle.sense.specs.Sense.{noSense, illegalRequest, blankCheck, volumeOverflow, noAdditional, unqualified, invalidListField, filemarkDetected, endOfPartition, beginningOfPartition, endOfDataDetected, told, plainly}
+use Rattle.record.specs.declared.drive.Drive.{Drive}
+use Rattle.codes.specs.declared.operation.Operation.{Operation}
+use Rattle.codes.specs.declared.operation.Operation.the-variants.{TestUnitReady, Rewind, RequestSense, ReadBlockLimits, Read, Write, WriteFilemarks, Space, ModeSelect, Erase, ModeSense, LoadUnload, Locate, ReadPosition, NotServed}
+use Rattle.codes.specs.Fields.{fixedOf, transferOf, spaceCountOf, objectOf, allocationOf}
+use Rattle.commands.specs.Parameters.{wholeLength, listRight, newLength}
+use Rattle.commands.specs.Act.{Seen, Deed, good, checked, carrying, readRun, at, eomAtEnd, filemarkMet, endTold, endMet, oddMet, beginningMet, warned, overflowed, hidden, readVariable, runTells, reading, goesDown, wrote, writing, marking, spaceTells, movement, spacing, targetOf, locateTells, locating, selecting, withLength, act}
+use Rattle.exact.specs.Residues.{counts}
+
+-- a sense that the command o may tell
+pub record Told (o : Operation) (s : Sense) : Type 0 where
+  pub filemark : Bool
+  pub eom : Bool
+  pub ili : Bool
+  pub key : ℕ
+  pub asc : ℕ
+  pub ascq : ℕ
+  pub residue : ℤ
+  pub key-small : key < 16
+  pub asc-known : (asc ≡ noAdditional) ⊎ (asc ≡ invalidListField)
+  pub is : s ≡ told (counts o) filemark eom ili key asc ascq residue
+
+abbrev pub ToldBy : Operation → Option Sense → Type 0
+ToldBy o none = Unit {0}
+ToldBy o (some s) = Told o s
+
+-- one that 01 gives ASC 00h
+plain : (o : Operation) (f e i : Bool) (key ascq : ℕ) (z : ℤ) → key < 16 → Told o (told (counts o) f e i key noAdditional ascq z)
+plain o f e i key ascq z h = record { filemark = f; eom = e; ili = i; key = key; asc = noAdditional; ascq = ascq; residue = z; key-small = h; asc-known = inl refl; is = refl }
+
+module _ (d : Drive) (cmd sent : List ℕ) (v : Seen) where
+  wrote-tells : (o : Operation) → counts o ≡ true → (n : ℕ) (os : List Object) (z : ℤ) → ToldBy o ((wrote d v n os z) .tells)
+  unfolding wrote
+  wrote-tells o c n os z = go (eqb (length os) n) (zoneIn (v .size) (roomOf (v .size) (d .position + length os) (bytesIn (take (d .position) (v .objects)) + bytesIn os)))
+    where
+      there : Drive
+      there = at d (d .position + length os)
+
+      go : (t w : Bool) → ToldBy o ((cond t (cond w (checked there warned) (good there)) (checked there (overflowed z))) .tells)
+      go true true = subst (λ (b : Bool). Told o (told b false true false noSense noAdditional endOfPartition (pos 0))) c (plain o false true false noSense endOfPartition (pos 0) (omega arith))
+      go true false = tt
+      go false w = subst (λ (b : Bool). Told o (told b false true false volumeOverflow noAdditional endOfPartition z)) c (plain o false true false volumeOverflow endOfPartition z (omega arith))
+
+  run-tells : (w : Ended) (z : ℤ) → ToldBy Read (runTells v w z)
+  unfolding runTells
+  run-tells whole z = tt
+  run-tells oddLength z = plain Read false false true noSense unqualified z (omega arith)
+  run-tells atFilemark z = plain Read true false false noSense filemarkDetected z (omega arith)
+  run-tells atEnd z = plain Read false (eomAtEnd v) false blankCheck endOfDataDetected z (omega arith)
+
+  variable-tells : (x : Option Object) → ToldBy Read ((readVariable d cmd v x) .tells)
+  unfolding readVariable
+  variable-tells none = plain Read false (eomAtEnd v) false blankCheck endOfDataDetected (pos (transferOf cmd)) (omega arith)
+  variable-tells (some filemark) = plain Read true false false noSense filemarkDetected (pos (transferOf cmd)) (omega arith)
+  variable-tells (some (block bs)) = go (eqb (length bs) (transferOf cmd) || hidden d cmd (length bs))
+    where
+      there : Drive
+      there = at d (suc (d .position))
+
+      go : (t : Bool) → ToldBy Read ((cond t (good there) (checked there (oddMet (subℕ (transferOf cmd) (length bs))))) .tells)
+      go true = tt
+      go false = plain Read false false true noSense unqualified (subℕ (transferOf cmd) (length bs)) (omega arith)
+
+  read-tells : ToldBy Read ((reading d cmd v) .tells)
+  unfolding reading
+  read-tells = go (eqb (transferOf cmd) 0) (fixedOf cmd)
+    where
+      go : (z f : Bool) → ToldBy Read
+          ((cond z (good d)
+          (cond f (readRun d v (transferOf cmd) (runOf (d .«block_length») (transferOf cmd) (drop (d .position) (v .objects))))
+          (readVariable d cmd v (getElem? (v .objects) (d .position))))) .tells)
+      go true f = tt
+      go false true = run-tells _ _
+      go false false = variable-tells (getElem? (v .objects) (d .position))
+
+  space-tells : ToldBy Space ((spacing d cmd v) .tells)
+  unfolding spacing spaceTells
+  space-tells = go (movement cmd (d .position) (v .objects)) ((movement cmd (d .position) (v .objects)) .why) (spaceCountOf cmd)
+    where
+      go : (m : M.Move) (w : M.Why) (k : ℤ) → ToldBy Space (spaceTells v k (record { to = m .to; moved = m .moved; why = w; distance = m .distance }))
+      go m M.done k = tt
+      go m M.marked k = plain Space true false false noSense filemarkDetected _ (omega arith)
+      go m M.edge (pos n) = plain Space false (eomAtEnd v) false blankCheck endOfDataDetected _ (omega arith)
+      go m M.edge (negsuc n) = plain Space false true false noSense beginningOfPartition _ (omega arith)
+
+  select-tells : ToldBy ModeSelect ((selecting d cmd sent) .tells)
+  unfolding selecting
+  select-tells = go (eqb (allocationOf cmd) 0) (listRight (allocationOf cmd) sent) (allocationOf cmd) (cond (eqb (allocationOf cmd) wholeLength) (withLength d (newLength sent)) d)
+    where
+      go : (z r : Bool) (n : ℕ) (e : Drive) → ToldBy ModeSelect ((cond z (good d) (cond r (carrying n (good e)) (checked d (plainly illegalRequest invalidListField unqualified)))) .tells)
+      go true r n e = tt
+      go false true n e = tt
+      go false false n e = record { filemark = false; eom = false; ili = false; key = illegalRequest; asc = invalidListField; ascq = unqualified; residue = pos 0; key-small = omega arith; asc-known = inr refl; is = refl }
+
+  locate-tells : ToldBy Locate ((locating d cmd v) .tells)
+  unfolding locating locateTells
+  locate-tells = go ((M.toObject (cond (eqb (targetOf d cmd) (d .current)) (d .position) 0) (objectOf cmd) (v .objects)) .why)
+    where
+      go : (w : M.Why) → ToldBy Locate (locateTells v w)
+      go M.done = tt
+      go M.marked = tt
+      go M.edge = plain Locate false (eomAtEnd v) false blankCheck endOfDataDetected (pos 0) (omega arith)
+
+  write-tells : ToldBy Write ((writing d cmd sent v) .tells)
+  unfolding writing
+  write-tells = go (eqb (transferOf cmd) 0) (fixedOf cmd)
+    where
+      os : List Object
+      os = goesDown Write d cmd sent v
+
+      go : (z f : Bool) → ToldBy Write ((cond z (good d) (carrying (bytesIn os) (cond f (wrote d v (transferOf cmd) os (subℕ (transferOf cmd) (length os))) (wrote d v 1 os (subℕ (transferOf cmd) (bytesIn os)))))) .tells)
+      go true f = tt
+      go false true = wrote-tells Write refl _ _ _
+      go false false = wrote-tells Write refl _ _ _
+
+  marks-tell : ToldBy WriteFilemarks ((marking d cmd sent v) .tells)
+  unfolding marking
+  marks-tell = go (eqb (transferOf cmd) 0)
+    where
+      os : List Object
+      os = goesDown WriteFilemarks d cmd sent v
+
+      go : (z : Bool) → ToldBy WriteFilemarks ((cond z (good d) (wrote d v (transferOf cmd) os (subℕ (transferOf cmd) (length os)))) .tells)
+      go true = tt
+      go false = wrote-tells WriteFilemarks refl _ _ _
+
+  pub act-tells : (o : Operation) → ToldBy o ((act o d cmd sent v) .tells)
+  unfolding act
+  act-tells TestUnitReady = tt
+  act-tells Rewind = tt
+  act-tells RequestSense = tt
+  act-tells ReadBlockLimits = tt
+  act-tells Read = read-tells
+  act-tells Write = write-tells
+  act-tells WriteFilemarks = marks-tell
+  act-tells Space = space-tells
+  act-tells ModeSelect = select-tells
+  act-tells Erase = tt
+  act-tells ModeSense = tt
+  act-tells LoadUnload = tt
+  act-tells Locate = locate-tells
+  act-tells ReadPosition = tt
+  act-tells NotServed = tt

@@ -1,0 +1,5 @@
+pub mod House
+pub mod Residues
+pub mod Senses
+pub mod Carried
+pub mod Numbers
