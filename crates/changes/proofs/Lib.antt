@@ -1,5 +1,4 @@
 pub mod Retitled
-pub mod Trailers
 pub mod Erased
 pub mod Placed
 pub mod Alike

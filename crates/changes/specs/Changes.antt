@@ -1,15 +1,14 @@
--- What the bytes of an image become: by an event on its objects, by erasing its free part, by blanking and by protection.
+-- What the bytes of an image become: by an event on its objects, and by erasing its free part.
 -- Every change is a run of bytes laid over others; what is not named stays.
 -- Assumes nothing: these are definitions.
-use Prim.Native.Nat.{ℕ, _+_, _-_, _*_, _/_, _^_}
-use mathlib.Core.Bool.{Bool, cond}
+use Prim.Native.Nat.{ℕ, _+_, _-_, _*_}
 use mathlib.Core.List.{List, [], _∷_}
 use lib.ListN.{length}
 use Rattle.words.specs.Words.{bytes, over, zeros}
 use Rattle.objects.specs.Object.{Object, filemark, block, dataOf}
 use Rattle.objects.specs.Events.{Event, put, cut}
 use Rattle.objects.specs.Room.{trailerLength, entryLength}
-use Rattle.image.specs.Image.{flagsBack, directoryBack, sizeBack, topOfEntry, entryPlace, count, flags, directory, endAt}
+use Rattle.image.specs.Image.{directoryBack, topOfEntry, entryPlace, count, directory, endAt}
 
 -- the trailer's N and D for n objects, in an image of l bytes: D = L − 16 − 4N
 unfoldable pub retitle : ℕ → ℕ → List ℕ → List ℕ
@@ -36,15 +35,3 @@ occurs (e ∷ es) s = occurs es (occur e s)
 -- "LONG also zeroes end(N) up to the new D"
 unfoldable pub cleared : List ℕ → List ℕ
 cleared s = over s (endAt s (count s)) (zeros (directory s - endAt s (count s)))
-
--- the trailer's flags
-unfoldable pub reflag : ℕ → List ℕ → List ℕ
-reflag f s = over s (length s - flagsBack) (bytes 4 f)
-
--- write protection set or cleared: flag bit 0 only
-unfoldable pub protect : Bool → List ℕ → List ℕ
-protect on s = reflag (flags s / 2 * 2 + cond on 1 0) s
-
--- "Blank: N = 0, flags 0, the right D and L, other bytes as lent."
-unfoldable pub blank : List ℕ → List ℕ
-blank s = over (over (retitle (length s) 0 s) (length s - flagsBack) (bytes 4 0)) (length s - sizeBack) (bytes 4 (length s))

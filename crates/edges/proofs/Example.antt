@@ -9,7 +9,8 @@ use Rattle.objects.specs.Object.{filemark, block}
 use Rattle.objects.specs.Events.{put, cut}
 use Rattle.image.specs.Image.{count, flags, directory, size, entry, topBit, low31, endAt, follows, ordered, rightLength, sound, used, room, fits, zone, objectAt, upto, objects, filemarksBefore}
 use Rattle.image.specs.Example.{E}
-use Rattle.changes.specs.Changes.{retitle, entryOf, enter, occur, occurs, cleared, reflag, protect, blank}
+use Rattle.changes.specs.Changes.{retitle, entryOf, enter, occur, occurs, cleared}
+use Rattle.trailers.specs.Trailers.{reflag, protect, blank}
 use Rattle.image.specs.Parts.{partOf}
 use Rattle.house.specs.Views.{viewOf}
 

@@ -6,7 +6,8 @@ use Rattle.words.specs.Signed.{signed, wrapped}
 use Rattle.objects.specs.Object.{bytesIn, filemarksIn}
 use Rattle.objects.specs.Movement as M
 use Rattle.image.specs.Image.{count, flags, protected, directory, size, entry, topBit, low31, endAt, follows, ordered, rightLength, sound, objectAt, upto, objects}
-use Rattle.changes.specs.Changes.{retitle, entryOf, enter, occur, occurs, cleared, blank, protect, reflag}
+use Rattle.changes.specs.Changes.{retitle, entryOf, enter, occur, occurs, cleared}
+use Rattle.trailers.specs.Trailers.{blank, protect, reflag}
 use Rattle.image.specs.Example.{E}
 use Rattle.sense.specs.Sense.{senseBytes, reports, told, emptySense, attentionSense}
 use Rattle.record.specs.Record.{decodeOf, encodeOf, attentionKnown, emptyHanded, placed, wellFormed, wellRecord, withSense, unloaded, loadedAnew}
@@ -19,7 +20,7 @@ use Rattle.commands.specs.Tests.{bytesAsked, fieldError, taken, replyLength, ne
 use Rattle.commands.specs.Step.{statusOf, keptOf, stopped, acted, unless, step}
 use Rattle.commands.specs.Call.{looksAt, seenOf, seen, inserted, laidOut, applied, stepOf, called, commandCall}
 use Rattle.commands.specs.Parameters.{blockLimits, modeData, listLengthKnown, headerRight, descriptorRight, listRight, shortPosition, longPosition}
-use Rattle.changes.specs.Least.{blank64}
+use Rattle.trailers.specs.Least.{blank64}
 use Rattle.edges.specs.Cases.{Edges, cases, ten, filemarks}
 use Rattle.edges.specs.Traps.{Traps, traps, full, guarded}
 

@@ -9,7 +9,7 @@ use Rattle.words.specs.Words.{bytes, over, zeros}
 use Rattle.objects.specs.Object.{filemark, block}
 use Rattle.objects.specs.Events.{Event, put}
 use Rattle.changes.specs.Changes.{occurs}
-use Rattle.changes.specs.Least.{blank64}
+use Rattle.trailers.specs.Least.{blank64}
 use Rattle.codes.specs.Six.{six}
 use Rattle.image.specs.Example.{E}
 use Rattle.commands.specs.Call.{lent, Result, result, commandCall}

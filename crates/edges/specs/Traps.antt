@@ -10,11 +10,12 @@ use Rattle.answers.specs.declared.Answer.{Answer}
 use Rattle.answers.specs.Answers.{refused, answered}
 use Rattle.objects.specs.Object.{filemark, block}
 use Rattle.objects.specs.Events.{put}
-use Rattle.changes.specs.Changes.{occurs, protect}
+use Rattle.changes.specs.Changes.{occurs}
+use Rattle.trailers.specs.Trailers.{protect}
 use Rattle.image.specs.Example.{E}
 use Rattle.commands.specs.Call.{Lent, lent, Result, result, commandCall}
 use Rattle.codes.specs.Six.{six}
-use Rattle.changes.specs.Least.{blank64}
+use Rattle.trailers.specs.Least.{blank64}
 use Rattle.edges.specs.Cases.{sense18, nothingKept, ten}
 
 pub record Trap : Type 0 where

@@ -9,7 +9,8 @@ use Rattle.words.specs.Signed.{signed, wrapped}
 use Rattle.objects.specs.Object.{bytesIn, filemarksIn}
 use Rattle.objects.specs.Movement as M
 use Rattle.image.specs.Image.{count, flags, protected, directory, size, entry, topBit, low31, endAt, follows, ordered, rightLength, sound, objectAt, upto, objects}
-use Rattle.changes.specs.Changes.{retitle, entryOf, enter, occur, occurs, cleared, blank, protect, reflag}
+use Rattle.changes.specs.Changes.{retitle, entryOf, enter, occur, occurs, cleared}
+use Rattle.trailers.specs.Trailers.{blank, protect, reflag}
 use Rattle.house.specs.Images.{blankCall, protectCall}
 use Rattle.image.specs.Image.{faultOf}
 use Rattle.sense.specs.Sense.{senseBytes, partsOf, reports, told, emptySense, attentionSense}
@@ -28,7 +29,7 @@ use Rattle.history.specs.History.{after, caused, events, ends, past}
 use Rattle.history.specs.Demand3.{metOf, readings}
 use Rattle.history.specs.Tiles.{AllHarmless}
 use Rattle.history.specs.Always.{callsOf, recordUsed}
-use Rattle.changes.specs.Least.{blank64}
+use Rattle.trailers.specs.Least.{blank64}
 use Rattle.history.specs.Lives.{uses, oneDrive, severalDrives, Computed}
 
 pub computed : Computed

@@ -16,11 +16,11 @@ use Rattle.objects.specs.Object.{Object}
 use Rattle.objects.specs.Events.{Event, Clear, Stands, happens, Lawful}
 use Rattle.objects.proofs.Standing.{stand, stand-blank, happens-append, lawful-append}
 use Rattle.image.specs.Image.{rightLength, sound, objects}
-use Rattle.changes.specs.Changes.{blank, protect}
+use Rattle.trailers.specs.Trailers.{blank, protect}
 use Rattle.house.specs.Images.{blankCall, protectCall}
 use Rattle.image.specs.Image.{faultOf}
 use Rattle.image.proofs.Facts.{Sound, sound-parts, right-parts}
-use Rattle.changes.proofs.Trailers.{blanks, protects}
+use Rattle.trailers.proofs.Trailers.{blanks, protects}
 use Rattle.record.specs.Record.{decodeOf, withSense}
 use Rattle.codes.specs.Codes.{codeOf, operationOf}
 use Rattle.commands.specs.Call.{lent, Result, result, commandCall}

@@ -11,7 +11,7 @@ use Rattle.words.specs.Words.{bytes, zeros}
 use Rattle.objects.specs.Object.{Object, filemark, block, largestBlock}
 use Rattle.objects.specs.Events.{Event, put, cut}
 use Rattle.image.specs.Image.{objects}
-use Rattle.changes.specs.Least.{blank64}
+use Rattle.trailers.specs.Least.{blank64}
 use Rattle.codes.specs.Six.{six}
 use Rattle.record.specs.Record.{encodeOf, freshDrive}
 use Rattle.history.specs.History.{Slot, slot0, slot1, Cartridge, cartridge, part, MadeBlank, together, alone, Call, command, mount, protection, ends, past}

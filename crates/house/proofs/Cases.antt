@@ -10,7 +10,7 @@ use Rattle.answers.specs.declared.Answer.{Answer}
 use Rattle.answers.specs.Answers.{recordFault, settled, refused, done, wrongLength, first}
 use Rattle.image.specs.declared.part.Part.{Part}
 use Rattle.image.specs.Image.{rightLength}
-use Rattle.changes.specs.Changes.{blank, protect}
+use Rattle.trailers.specs.Trailers.{blank, protect}
 use Rattle.house.specs.Images.{blankCall, protectCall}
 use Rattle.image.specs.Image.{faultOf}
 use Rattle.image.specs.Parts.{emptyPart, partOf, shown, placeOf}

@@ -5,7 +5,7 @@ use mathlib.Core.Bool.{Bool, not}
 use mathlib.Core.List.{List, [], _∷_}
 use Rattle.answers.specs.Answers.{Settled, first, refusalOf, settledBy, wrongLength}
 use Rattle.image.specs.Image.{rightLength, faultOf}
-use Rattle.changes.specs.Changes.{blank, protect}
+use Rattle.trailers.specs.Trailers.{blank, protect}
 
 -- blank: 7, else done
 abbrev pub blankTests : List ℕ → List (Bool × ℕ)

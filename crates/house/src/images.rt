@@ -11,7 +11,7 @@ pub fn blank(s: &mut [u8]) -> Answer
     if !image::has_right_length(s) {
         return answers::refused(answers::WRONG_LENGTH);
     }
-    changes::make_blank(s);
+    trailers::make_blank(s);
     answers::done()
 }
 
@@ -23,6 +23,6 @@ pub fn protect(s: &mut [u8], on: bool) -> Answer
     if fault != 0 {
         return answers::refused(fault);
     }
-    changes::set_protection(s, on);
+    trailers::set_protection(s, on);
     answers::done()
 }

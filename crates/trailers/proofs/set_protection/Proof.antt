@@ -3,9 +3,9 @@
 use native.Mathlib.Omega.{arith}
 use borrow.Author.Needs.{needs}
 use Rattle.image.proofs.Facts.{bit-set}
-use Rattle.changes.specs.Changes.{protect, reflag}
-use Rattle.changes.proofs.trailer.set_protection.Statement.{statement}
-use Rattle.changes.proofs.trailer.set_protection.Tie as tie
+use Rattle.trailers.specs.Trailers.{protect, reflag}
+use Rattle.trailers.proofs.set_protection.Statement.{statement}
+use Rattle.trailers.proofs.set_protection.Tie as tie
 
 flags-of-requires : tie.Need-flags-of-requires
 flags-of-requires c κs = search needs

@@ -15,11 +15,12 @@ use Rattle.words.specs.Words.{be, bytes, over}
 use Rattle.words.proofs.Laws.{Outside, length-bytes, length-put, be-put, be-put-lt, be-put-ge, getD-put-lt, getD-over-out}
 use Rattle.objects.specs.Room.{trailerLength, entryLength}
 use Rattle.image.specs.Image.{leastLength, mostLength, flagBits, count, flags, protected, directory, size, endAt, ordered, objectAt, objects, upto}
-use Rattle.changes.specs.Changes.{retitle, reflag, protect, blank}
+use Rattle.changes.specs.Changes.{retitle}
+use Rattle.trailers.specs.Trailers.{reflag, protect, blank}
 use Rattle.image.proofs.Facts.{Sound, ends-in, entries-in}
 use Rattle.changes.proofs.Alike.{Matching, alike-end, alike-ordered, alike-object}
 use Rattle.image.proofs.Objects.{upto-cong}
 use Rattle.changes.proofs.Retitled.{retitle-length, retitle-out, retitle-count, retitle-dir}
 
 -- ---- the flags alone
 

@@ -4,7 +4,7 @@ use Prim.Native.Nat.{ℕ}
 use mathlib.Core.List.{List}
 use Rattle.words.specs.Words.{zeros}
 use Rattle.image.specs.Image.{leastLength}
-use Rattle.changes.specs.Changes.{blank}
+use Rattle.trailers.specs.Trailers.{blank}
 
 unfoldable pub blank64 : List ℕ
 blank64 = blank (zeros leastLength)

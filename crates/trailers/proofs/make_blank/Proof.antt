@@ -1,9 +1,9 @@
 -- The four words laid down are the definition.
 -- Assumes nothing.
 use borrow.Author.Needs.{needs}
-use Rattle.changes.specs.Changes.{blank}
-use Rattle.changes.proofs.trailer.make_blank.Statement.{statement}
-use Rattle.changes.proofs.trailer.make_blank.Tie as tie
+use Rattle.trailers.specs.Trailers.{blank}
+use Rattle.trailers.proofs.make_blank.Statement.{statement}
+use Rattle.trailers.proofs.make_blank.Tie as tie
 
 retitle-requires : tie.Need-retitle-requires
 retitle-requires c κs = search needs
