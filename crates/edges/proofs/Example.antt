@@ -4,15 +4,16 @@ use mathlib.Core.Bool.{true, false}
 use mathlib.Core.Path.{_≡_, refl}
 use mathlib.Core.List.{[], _∷_, _++_}
 use lib.ListN.{replicate}
-use Rattle.words.specs.Words.{be, bytes, over}
+use Rattle.words.specs.Words.{be, bytes, over, zeros}
 use Rattle.objects.specs.Object.{filemark, block}
 use Rattle.objects.specs.Events.{put, cut}
-use Rattle.image.specs.Image.{count, flags, directory, size, entry, topBit, low31, endAt, follows, ordered, rightLength, sound, used, room, fits, zone, objectAt, upto, objects, filemarksBefore}
+use Rattle.image.specs.Image.{leastLength, count, flags, directory, size, entry, topBit, low31, endAt, follows, ordered, rightLength, sound, used, room, fits, zone, objectAt, upto, objects, filemarksBefore}
 use Rattle.image.specs.Example.{E}
 use Rattle.changes.specs.Changes.{retitle, entryOf, enter, occur, occurs, cleared}
 use Rattle.trailers.specs.Trailers.{reflag, protect, blank}
 use Rattle.image.specs.Parts.{partOf}
 use Rattle.house.specs.Views.{viewOf}
+use Rattle.edges.specs.Cases.{bare64}
 
 E-sound : sound E ≡ true
 unfolding E be bytes count flags directory size entry topBit low31 endAt follows ordered rightLength sound
@@ -35,6 +36,11 @@ E-filemarks = refl
 E-made : occurs (put 0 (block (1 ∷ 2 ∷ 3 ∷ [])) ∷ put 1 filemark ∷ []) (blank (replicate 64 0)) ≡ E
 unfolding E be bytes over occurs occur retitle enter entryOf blank endAt entry low31
 E-made = refl
+
+-- the blank of the table's cases is one that our software makes
+bare-made : blank (zeros leastLength) ≡ bare64
+unfolding blank retitle bytes over bare64
+bare-made = refl
 
 -- its views: the block, the filemark, no such object, no such partition
 E-view : (viewOf E [] 0 0 ≡ record { start = 0; len = 3 }) × (viewOf E [] 0 1 ≡ record { start = 0; len = 0 }) × (viewOf [] E 1 2 ≡ record { start = 0; len = 0 }) × (viewOf E E 2 0 ≡ record { start = 0; len = 0 })

@@ -20,12 +20,11 @@ use Rattle.commands.specs.Tests.{bytesAsked, fieldError, taken, replyLength, ne
 use Rattle.commands.specs.Step.{statusOf, keptOf, stopped, acted, unless, step}
 use Rattle.commands.specs.Call.{looksAt, seenOf, seen, inserted, laidOut, applied, stepOf, called, commandCall}
 use Rattle.commands.specs.Parameters.{blockLimits, modeData, listLengthKnown, headerRight, descriptorRight, listRight, shortPosition, longPosition}
-use Rattle.trailers.specs.Least.{blank64}
-use Rattle.edges.specs.Cases.{Edges, cases, ten, filemarks}
-use Rattle.edges.specs.Traps.{Traps, traps, full, guarded}
+use Rattle.edges.specs.Cases.{Edges, cases, bare64, full, ten, tenAnd7, tenAnd8}
+use Rattle.edges.specs.Traps.{Traps, traps, guarded}
 
 pub edges : Edges cases
-unfolding Edges cases blank64 ten filemarks E be bytes over signed wrapped bytesIn filemarksIn M.walk M.before M.ahead M.astern M.space M.residue M.toEndOfData M.toObject
+unfolding Edges cases bare64 full ten tenAnd7 tenAnd8 E be bytes over signed wrapped bytesIn filemarksIn M.walk M.before M.ahead M.astern M.space M.residue M.toEndOfData M.toObject
     count flags protected directory size entry topBit low31 endAt follows ordered rightLength sound objectAt upto objects retitle entryOf enter occur occurs cleared blank
     senseBytes reports told emptySense attentionSense decodeOf encodeOf attentionKnown emptyHanded placed wellFormed wellRecord withSense tooShort inMasks masksHold
     fixedOf siliOf transferOf spaceCodeOf spaceCountOf longOf changesPartition objectOf partitionOf loadOf formOf dbdOf pageOf pfOf allocationOf
@@ -35,10 +34,10 @@ edges = (refl, (refl, (refl, (refl, (refl, (refl, (refl, (refl, (refl, (refl, (r
 
 -- and the cases beside the table
 pub trapped : Traps traps
-unfolding Traps traps full guarded blank64 ten E be bytes over signed wrapped bytesIn filemarksIn M.walk M.before M.ahead M.astern M.space M.residue M.toEndOfData M.toObject
+unfolding Traps traps full guarded ten E be bytes over signed wrapped bytesIn filemarksIn M.walk M.before M.ahead M.astern M.space M.residue M.toEndOfData M.toObject
     count flags protected directory size entry topBit low31 endAt follows ordered rightLength sound objectAt upto objects retitle entryOf enter occur occurs cleared blank
     senseBytes reports told emptySense attentionSense decodeOf encodeOf attentionKnown emptyHanded placed wellFormed wellRecord withSense tooShort inMasks masksHold
     fixedOf siliOf transferOf spaceCodeOf spaceCountOf longOf changesPartition objectOf partitionOf loadOf formOf dbdOf pageOf pfOf allocationOf
     first runOf blocksOf marksOf fitting putFrom hidden readVariable runTells reading offered goesDown wrote writing marking spaceTells movement spacing targetOf locateTells locating selecting replyOf act eventsOf
     bytesAsked fieldError taken replyLength needed tests statusOf keptOf stopped acted unless step looksAt seenOf seen inserted laidOut applied stepOf called commandCall protect reflag blockLimits modeData listLengthKnown headerRight descriptorRight listRight shortPosition longPosition unloaded loadedAnew
-trapped = (refl, (refl, (refl, (refl, (refl, (refl, (refl, (refl, (refl, (refl, (refl, (refl, (refl, (refl, (refl, (refl, (refl, (refl, (refl, (refl, (refl, (refl, (refl, (refl, (refl, (refl, (refl, (refl, (refl, (refl, (refl, (refl, (refl, tt)))))))))))))))))))))))))))))))))
+trapped = (refl, (refl, (refl, (refl, (refl, (refl, (refl, (refl, (refl, (refl, (refl, (refl, (refl, (refl, (refl, (refl, (refl, (refl, (refl, (refl, (refl, (refl, (refl, (refl, (refl, (refl, (refl, (refl, (refl, (refl, (refl, (refl, (refl, (refl, (refl, (refl, tt))))))))))))))))))))))))))))))))))))

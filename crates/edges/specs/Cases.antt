@@ -1,15 +1,11 @@
 -- 01, "Cases at the edges": each case as record, cartridge and command in, and answer, sense, data, position and cartridge out.
 -- Assumes nothing: these are definitions.
-use Prim.Native.Nat.{ℕ, zero, suc}
+use Prim.Native.Nat.{ℕ}
 use mathlib.Core.Path.{_≡_}
 use mathlib.Core.List.{List, [], _∷_, _++_}
 use lib.ListN.{replicate}
 use Rattle.answers.specs.Answers.{answered}
 use Rattle.words.specs.Words.{bytes, over, zeros}
-use Rattle.objects.specs.Object.{filemark, block}
-use Rattle.objects.specs.Events.{Event, put}
-use Rattle.changes.specs.Changes.{occurs}
-use Rattle.trailers.specs.Least.{blank64}
 use Rattle.codes.specs.Six.{six}
 use Rattle.image.specs.Example.{E}
 use Rattle.commands.specs.Call.{lent, Result, result, commandCall}
@@ -21,13 +17,13 @@ pub record Case : Type 0 where
   pub cartridge : List ℕ
   pub command : List ℕ
   pub sent : List ℕ
-  -- out: the status, the bytes carried, the kept sense, the position, the data received, what was put on the cartridge
+  -- out: the status, the bytes carried, the kept sense, the position, the data received, the cartridge
   pub status : ℕ
   pub carried : ℕ
   pub sense : List ℕ
   pub to : ℕ
   pub received : List ℕ
-  pub puts : List Event
+  pub left : List ℕ
 
 -- a record of a drive with one partition and no attention: position, block length, kept sense
 abbrev pub recordAt : ℕ → ℕ → List ℕ → List ℕ
@@ -51,64 +47,84 @@ callOf c = commandCall (recordAt (c .from) (c .blockLength) nothingKept) (lent (
 abbrev pub expected : Case → Result
 expected c =
     result (answered (c .status) (c .carried)) (recordAt (c .to) (c .blockLength) (c .sense))
-    (lent (c .command) (occurs (c .puts) (c .cartridge)) [] (c .sent) (over buffer 0 (c .received)))
+    (lent (c .command) (c .left) [] (c .sent) (over buffer 0 (c .received)))
 
 -- every case of a list is as expected
 unfoldable pub Edges : List Case → Type 0
 Edges [] = Unit {0}
 Edges (c ∷ cs) = (callOf c ≡ expected c) × Edges cs
 
--- ---- the cartridges
+-- ---- the cartridges, of 64 bytes, byte by byte
 
--- after a 10-byte block
+-- N, flags 0, D, L
+abbrev pub trailer : ℕ → ℕ → List ℕ
+trailer n d = bytes 4 n ++ bytes 4 0 ++ bytes 4 d ++ bytes 4 64
+
+-- "Blank"
+unfoldable pub bare64 : List ℕ
+bare64 = zeros 48 ++ trailer 0 48
+
+-- a block of 44 sevens, which fills it
+unfoldable pub full : List ℕ
+full = replicate 44 7 ++ bytes 4 44 ++ trailer 1 44
+
+-- "After a 10-byte block": ten nines
 unfoldable pub ten : List ℕ
-ten = occurs (put 0 (block (replicate 10 9)) ∷ []) blank64
+ten = replicate 10 9 ++ zeros 34 ++ bytes 4 10 ++ trailer 1 44
+
+-- and behind it 7 filemarks, or 8: each ends where the block does
+unfoldable pub tenAnd7 : List ℕ
+tenAnd7 =
+    replicate 10 9 ++ zeros 6
+    ++ bytes 4 0x8000000A ++ bytes 4 0x8000000A ++ bytes 4 0x8000000A ++ bytes 4 0x8000000A ++ bytes 4 0x8000000A ++ bytes 4 0x8000000A ++ bytes 4 0x8000000A
+    ++ bytes 4 10 ++ trailer 8 16
+
+unfoldable pub tenAnd8 : List ℕ
+tenAnd8 =
+    replicate 10 9 ++ zeros 2
+    ++ bytes 4 0x8000000A ++ bytes 4 0x8000000A ++ bytes 4 0x8000000A ++ bytes 4 0x8000000A ++ bytes 4 0x8000000A ++ bytes 4 0x8000000A ++ bytes 4 0x8000000A ++ bytes 4 0x8000000A
+    ++ bytes 4 10 ++ trailer 9 12
 
 -- ---- the commands
 
 abbrev pub locate : ℕ → List ℕ
 locate object = (0x2B ∷ 0 ∷ 0 ∷ []) ++ bytes 4 object ++ (0 ∷ 0 ∷ 0 ∷ [])
 
--- an edge: in from, block length, cartridge, command, sent; out status, carried, sense, to, received, puts
-abbrev pub edge : ℕ → ℕ → List ℕ → List ℕ → List ℕ → ℕ → ℕ → List ℕ → ℕ → List ℕ → List Event → Case
-edge from blockLength cartridge command sent status carried sense to received puts =
-    record { from = from; blockLength = blockLength; cartridge = cartridge; command = command; sent = sent; status = status; carried = carried; sense = sense; to = to; received = received; puts = puts }
-
--- n filemarks from number 1 on
-unfoldable pub filemarks : ℕ → List Event
-filemarks zero = []
-filemarks (suc n) = filemarks n ++ put (suc n) filemark ∷ []
+-- an edge: in from, block length, cartridge, command, sent; out status, carried, sense, to, received, cartridge
+abbrev pub edge : ℕ → ℕ → List ℕ → List ℕ → List ℕ → ℕ → ℕ → List ℕ → ℕ → List ℕ → List ℕ → Case
+edge from blockLength cartridge command sent status carried sense to received left =
+    record { from = from; blockLength = blockLength; cartridge = cartridge; command = command; sent = sent; status = status; carried = carried; sense = sense; to = to; received = received; left = left }
 
 -- ---- the table
 
 unfoldable pub cases : List Case
 cases =
     -- P1 blank: WRITE 44: put, 0/00/02, information 0
-    edge 0 0 blank64 (six 0x0A 0 44) (replicate 44 7) 2 44 (sense18 0xF0 0x40 0 0x00 0x02) 1 [] (put 0 (block (replicate 44 7)) ∷ []) ∷
+    edge 0 0 bare64 (six 0x0A 0 44) (replicate 44 7) 2 44 (sense18 0xF0 0x40 0 0x00 0x02) 1 [] full ∷
     -- P2 WRITE 45: D/00/02, information 45, N 0
-    edge 0 0 blank64 (six 0x0A 0 45) (replicate 45 7) 2 0 (sense18 0xF0 0x4D 45 0x00 0x02) 0 [] [] ∷
+    edge 0 0 bare64 (six 0x0A 0 45) (replicate 45 7) 2 0 (sense18 0xF0 0x4D 45 0x00 0x02) 0 [] bare64 ∷
     -- P3 after a 10-byte block, filemarks: 7 GOOD
-    edge 1 0 ten (six 0x10 0 7) [] 0 0 nothingKept 8 [] (filemarks 7) ∷
+    edge 1 0 ten (six 0x10 0 7) [] 0 0 nothingKept 8 [] tenAnd7 ∷
     -- P4 8 put, zone
-    edge 1 0 ten (six 0x10 0 8) [] 2 0 (sense18 0xF0 0x40 0 0x00 0x02) 9 [] (filemarks 8) ∷
+    edge 1 0 ten (six 0x10 0 8) [] 2 0 (sense18 0xF0 0x40 0 0x00 0x02) 9 [] tenAnd8 ∷
     -- P5 9: 8 put, residue 1
-    edge 1 0 ten (six 0x10 0 9) [] 2 0 (sense18 0xF0 0x4D 1 0x00 0x02) 9 [] (filemarks 8) ∷
+    edge 1 0 ten (six 0x10 0 9) [] 2 0 (sense18 0xF0 0x4D 1 0x00 0x02) 9 [] tenAnd8 ∷
     -- P6 on E: READ 5 at 0: 3 bytes, ILI, 2
-    edge 0 0 E (six 0x08 0 5) [] 2 3 (sense18 0xF0 0x20 2 0x00 0x00) 1 (1 ∷ 2 ∷ 3 ∷ []) [] ∷
+    edge 0 0 E (six 0x08 0 5) [] 2 3 (sense18 0xF0 0x20 2 0x00 0x00) 1 (1 ∷ 2 ∷ 3 ∷ []) E ∷
     -- P7 READ 2 at 0: 2 bytes, FFFFFFFFh; with SILI GOOD
-    edge 0 0 E (six 0x08 0 2) [] 2 2 (sense18 0xF0 0x20 0xFFFFFFFF 0x00 0x00) 1 (1 ∷ 2 ∷ []) [] ∷
-    edge 0 0 E (six 0x08 2 2) [] 0 2 nothingKept 1 (1 ∷ 2 ∷ []) [] ∷
+    edge 0 0 E (six 0x08 0 2) [] 2 2 (sense18 0xF0 0x20 0xFFFFFFFF 0x00 0x00) 1 (1 ∷ 2 ∷ []) E ∷
+    edge 0 0 E (six 0x08 2 2) [] 0 2 nothingKept 1 (1 ∷ 2 ∷ []) E ∷
     -- P8 block length 3, FIXED 2 at 0: 3 bytes, filemark, residue 1, position 2
-    edge 0 3 E (six 0x08 1 2) [] 2 3 (sense18 0xF0 0x80 1 0x00 0x01) 2 (1 ∷ 2 ∷ 3 ∷ []) [] ∷
+    edge 0 3 E (six 0x08 1 2) [] 2 3 (sense18 0xF0 0x80 1 0x00 0x01) 2 (1 ∷ 2 ∷ 3 ∷ []) E ∷
     -- P9 block length 4, FIXED 2 at 0: ILI, 2, position 1
-    edge 0 4 E (six 0x08 1 2) [] 2 0 (sense18 0xF0 0x20 2 0x00 0x00) 1 [] [] ∷
+    edge 0 4 E (six 0x08 1 2) [] 2 0 (sense18 0xF0 0x20 2 0x00 0x00) 1 [] E ∷
     -- P10 SPACE blocks −5 at 2: F0 00 80 FF FF FF FB 0A, byte 13 01, position 1
-    edge 2 0 E (six 0x11 0 0xFFFFFB) [] 2 0 (sense18 0xF0 0x80 0xFFFFFFFB 0x00 0x01) 1 [] [] ∷
+    edge 2 0 E (six 0x11 0 0xFFFFFB) [] 2 0 (sense18 0xF0 0x80 0xFFFFFFFB 0x00 0x01) 1 [] E ∷
     -- P11 at 1: FFFFFFFCh, 0/00/04, position 0
-    edge 1 0 E (six 0x11 0 0xFFFFFB) [] 2 0 (sense18 0xF0 0x40 0xFFFFFFFC 0x00 0x04) 0 [] [] ∷
+    edge 1 0 E (six 0x11 0 0xFFFFFB) [] 2 0 (sense18 0xF0 0x40 0xFFFFFFFC 0x00 0x04) 0 [] E ∷
     -- P12 LOCATE 2 GOOD, 3 blank check at 2
-    edge 0 0 E (locate 2) [] 0 0 nothingKept 2 [] [] ∷
-    edge 0 0 E (locate 3) [] 2 0 (sense18 0x70 0x08 0 0x00 0x05) 2 [] [] ∷
+    edge 0 0 E (locate 2) [] 0 0 nothingKept 2 [] E ∷
+    edge 0 0 E (locate 3) [] 2 0 (sense18 0x70 0x08 0 0x00 0x05) 2 [] E ∷
     -- READ 5 at 1: residue 5, position 2
-    edge 1 0 E (six 0x08 0 5) [] 2 0 (sense18 0xF0 0x80 5 0x00 0x01) 2 [] [] ∷
+    edge 1 0 E (six 0x08 0 5) [] 2 0 (sense18 0xF0 0x80 5 0x00 0x01) 2 [] E ∷
     []

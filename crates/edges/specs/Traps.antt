@@ -8,15 +8,11 @@ use lib.ListN.{replicate}
 use Rattle.words.specs.Words.{bytes, zeros}
 use Rattle.answers.specs.declared.Answer.{Answer}
 use Rattle.answers.specs.Answers.{refused, answered}
-use Rattle.objects.specs.Object.{filemark, block}
-use Rattle.objects.specs.Events.{put}
-use Rattle.changes.specs.Changes.{occurs}
 use Rattle.trailers.specs.Trailers.{protect}
 use Rattle.image.specs.Example.{E}
 use Rattle.commands.specs.Call.{Lent, lent, Result, result, commandCall}
 use Rattle.codes.specs.Six.{six}
-use Rattle.trailers.specs.Least.{blank64}
-use Rattle.edges.specs.Cases.{sense18, nothingKept, ten}
+use Rattle.edges.specs.Cases.{sense18, nothingKept, trailer, full, ten, locate}
 
 pub record Trap : Type 0 where
   pub rec : List ℕ
@@ -64,10 +60,6 @@ turns rec command part answer rec′ = alone rec command part [] [] answer rec�
 
 -- ---- cartridges
 
--- one block that fills a blank of 64 bytes
-unfoldable pub full : List ℕ
-full = occurs (put 0 (block (replicate 44 7)) ∷ []) blank64
-
 unfoldable pub guarded : List ℕ
 guarded = protect true E
 
@@ -76,8 +68,8 @@ traps =
     -- a write that does not fit changes nothing, though it stands before an object
     alone (loaded 0 0 0 nothingKept) (six 0x0A 0 45) ten (replicate 45 7) [] (check 0) (loaded 0 0 0 (sense18 0xF0 0x4D 45 0x00 0x02)) ten [] ∷
     -- on a full tape the room at 0 counts
-    alone (loaded 0 0 0 nothingKept) (six 0x0A 0 1) full (5 ∷ []) [] (goodAnswer 1) (loaded 0 1 0 nothingKept) (occurs (put 0 (block (5 ∷ [])) ∷ []) full) [] ∷
-    alone (loaded 0 0 0 nothingKept) (six 0x10 0 1) full [] [] (goodAnswer 0) (loaded 0 1 0 nothingKept) (occurs (put 0 filemark ∷ []) full) [] ∷
+    alone (loaded 0 0 0 nothingKept) (six 0x0A 0 1) full (5 ∷ []) [] (goodAnswer 1) (loaded 0 1 0 nothingKept) ((5 ∷ []) ++ replicate 43 7 ++ bytes 4 1 ++ trailer 1 44) [] ∷
+    alone (loaded 0 0 0 nothingKept) (six 0x10 0 1) full [] [] (goodAnswer 0) (loaded 0 1 0 nothingKept) (replicate 44 7 ++ bytes 4 0x80000000 ++ trailer 1 44) [] ∷
     -- REQUEST SENSE answers the waiting attention and not the old sense, and clears both
     alone (loaded 0x28 0 0 (plain 5 0x24 0)) (six 0x03 0 0x12) E [] (zeros 18) (goodAnswer 18) (loaded 0 0 0 nothingKept) E (plain 6 0x28 0) ∷
     -- an attention comes before a code that is not served, and a short command before both
@@ -104,6 +96,10 @@ traps =
     -- nothing written and a move to end of data are GOOD inside the zone
     turns (loaded 0 1 0 nothingKept) (six 0x0A 0 0) full (goodAnswer 0) (loaded 0 1 0 nothingKept) ∷
     turns (loaded 0 0 0 nothingKept) (six 0x11 3 5) full (goodAnswer 0) (loaded 0 1 0 nothingKept) ∷
+    -- end of data inside the zone: READ, SPACE and LOCATE tell 8/00/05 there, EOM 0
+    alone (loaded 0 1 0 nothingKept) (six 0x08 0 1) full [] (zeros 1) (check 0) (loaded 0 1 0 (sense18 0xF0 0x08 1 0x00 0x05)) full (zeros 1) ∷
+    turns (loaded 0 1 0 nothingKept) (six 0x11 0 1) full (check 0) (loaded 0 1 0 (sense18 0xF0 0x08 1 0x00 0x05)) ∷
+    turns (loaded 0 0 0 nothingKept) (locate 2) full (check 0) (loaded 0 1 0 (plain 8 0x00 0x05)) ∷
     -- any kept sense is well formed, and is returned as it is
     turns (loaded 0 0 0 (replicate 18 0xFF)) (six 0x00 0 0) E (goodAnswer 0) (loaded 0 0 0 nothingKept) ∷
     alone (loaded 0 0 0 (zeros 18)) (six 0x03 0 0x12) E [] (replicate 18 0xFF) (goodAnswer 18) (loaded 0 0 0 nothingKept) E (zeros 18) ∷

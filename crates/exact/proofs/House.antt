@@ -8,19 +8,26 @@ use mathlib.Core.Bool.{Bool, true, false, cond, not, _&&_, _||_}
 use mathlib.Core.Option.{Option, none, some}
 use mathlib.Core.List.{List, [], _∷_}
 use native.Mathlib.Omega.{arith}
-use borrow.Author.Tests.{eq-eqb, ne-eqb}
-use lib.Dec.{eqb, leb}
-use lib.ListN.{length}
+use borrow.Author.Tests.{eqb-true, eqb-false, ne-eqb, ltb-true, ltb-false}
+use lib.Dec.{eqb, leb, ltb}
+use lib.ListN.{length, getElem?}
+use lib.Seq.{slice}
 use Rattle.answers.specs.Answers.{recordFault, alreadyLoaded, unsoundImage, wrongLength, refused, first, refusalOf, Settled, settled, settledBy}
-use Rattle.answers.proofs.First.{NoneBefore, FirstAt, givenAt, held, exactly, Decides, fails, given, false-test, no-test, and-test, or-test, nand-test, same-test, most-test}
-use Rattle.image.specs.Image.{leastLength, mostLength, rightLength, sound, faultOf, imageTests, absent}
+use Rattle.answers.proofs.First.{NoneBefore, FirstAt, givenAt, held, exactly, none-held, none-holds, Decides, fails, given, false-test, no-test, and-test, or-test, nand-test, same-test, most-test}
+use Rattle.objects.specs.Object.{filemark, block}
+use Rattle.image.specs.declared.part.Part.{Part}
+use Rattle.image.specs.Image.{leastLength, mostLength, rightLength, sound, count, entry, topBit, endAt, objectAt, objects, faultOf, imageTests, absent}
+use Rattle.image.specs.Parts.{emptyPart, partOf}
+use Rattle.image.proofs.Facts.{sound-parts, ordered-at, follows-size}
+use Rattle.image.proofs.Objects.{object-there, object-past}
 use Rattle.record.specs.Record.{recordLength, decodeOf, encodeOf, wellRecord, freshDrive, mountedDrive}
-use Rattle.changes.specs.Changes.{blank, protect}
+use Rattle.trailers.specs.Trailers.{blank, protect}
 use Rattle.commands.specs.Conditions.{Empty, RecordWrong, Unsound, LentUnsound}
 use Rattle.commands.proofs.Exact.{record-test, above-test}
 use Rattle.house.specs.Mount.{partitionsOf, rightLengths, bothSound, freshTests, freshCall, mountTests, mountFault, mountCall}
 use Rattle.house.specs.Images.{blankTests, blankCall, protectCall}
-use Rattle.exact.specs.House.{LengthOutside, LentOutside, Loaded, Mount5, Mount7, Mount6}
+use Rattle.house.specs.Views.{viewOf}
+use Rattle.exact.specs.House.{LengthOutside, LentOutside, Loaded, Mount5, Mount7, Mount6, NoBlock, NothingToView}
 
 -- ---- a service by its tests
 
@@ -40,7 +47,15 @@ module _ (ts : List (Bool × ℕ)) (lent made : List ℕ) where
       go none e = absurd (omega arith)
       go (some m) e = ap (λ (k : ℕ). some k) e
 
-  -- and then leaves every byte
+  -- and is done, with 0, exactly when none holds, where no test gives 0
+  pub serves-0 : ((j : ℕ) → givenAt ts j ≡ some 0 → ⊥) → (S .answer .refusal ≡ 0) ↔ NoneBefore ts (length ts)
+  serves-0 n = ((λ e. none-held ts (go (first ts) refl (sym (number-is (refusalOf (first ts))) ∙ e))), (λ h. number-is (refusalOf (first ts)) ∙ ap refusalOf (none-holds ts h)))
+    where
+      go : (t : Option ℕ) → first ts ≡ t → refusalOf t ≡ 0 → first ts ≡ none
+      go none q e = q
+      go (some m) q e = absurd (let h = held ts m q in n (h .at) (h .says ∙ ap (λ (k : ℕ). some k) e))
+
+  -- refused, it leaves every byte
   pub serves-none : S .answer .refusal ≢ 0 → S ≡ settled (refused (S .answer .refusal)) lent
   serves-none z = go (refusalOf (first ts)) z
     where
@@ -90,6 +105,14 @@ module _ (rec : List ℕ) where
       only zero e = refl
       only (suc j) e = cc
 
+  pub fresh-0 : (freshCall rec .answer .refusal ≡ 0) ↔ (¬ (length rec ≢ recordLength))
+  unfolding freshCall
+  fresh-0 = Iff·trans (serves-0 (freshTests rec) rec (encodeOf freshDrive) never) (past (not (eqb (length rec) recordLength)) (no-test (eqb (length rec) recordLength) (same-test (length rec) recordLength)))
+    where
+      never : (j : ℕ) → givenAt (freshTests rec) j ≡ some 0 → ⊥
+      never zero e = let z : _≡_ {A = ℕ} 4 0 = same 4 0 e in omega arith
+      never (suc j) e = let z : _≡_ {A = ℕ} 0 1 = cc in omega arith
+
   pub fresh-leaves : freshCall rec .answer .refusal ≢ 0 → freshCall rec ≡ settled (refused (freshCall rec .answer .refusal)) rec
   unfolding freshCall
   fresh-leaves = serves-none (freshTests rec) rec (encodeOf freshDrive)
@@ -105,6 +128,14 @@ module _ (s : List ℕ) where
       only : (j : ℕ) → givenAt (blankTests s) j ≡ some 7 → j ≡ 0
       only zero e = refl
       only (suc j) e = cc
+
+  pub blank-0 : (blankCall s .answer .refusal ≡ 0) ↔ (¬ LengthOutside s)
+  unfolding blankCall
+  blank-0 = Iff·trans (serves-0 (blankTests s) s (blank s) never) (past (not (rightLength s)) (length-test s))
+    where
+      never : (j : ℕ) → givenAt (blankTests s) j ≡ some 0 → ⊥
+      never zero e = let z : _≡_ {A = ℕ} 7 0 = same 7 0 e in omega arith
+      never (suc j) e = let z : _≡_ {A = ℕ} 0 1 = cc in omega arith
 
   pub blank-leaves : blankCall s .answer .refusal ≢ 0 → blankCall s ≡ settled (refused (blankCall s .answer .refusal)) s
   unfolding blankCall
@@ -129,6 +160,15 @@ module _ (on : Bool) (s : List ℕ) where
   protect-6 =
       Iff·trans (serves (imageTests s) s (protect on s) 6 (omega arith))
       (Iff·trans (exactly (imageTests s) 6 1 refl (λ j e. only-once j 6 e)) (given (past (not (rightLength s)) (length-test s)) (λ _. false-test (sound s))))
+
+  pub protect-0 : (protectCall on s .answer .refusal ≡ 0) ↔ ((¬ LengthOutside s) × ¬ Unsound s)
+  unfolding protectCall faultOf
+  protect-0 = Iff·trans (serves-0 (imageTests s) s (protect on s) never) (given (past (not (rightLength s)) (length-test s)) (λ _. fails (not (sound s)) (false-test (sound s))))
+    where
+      never : (j : ℕ) → givenAt (imageTests s) j ≡ some 0 → ⊥
+      never zero e = let z : _≡_ {A = ℕ} 7 0 = same 7 0 e in omega arith
+      never (suc zero) e = let z : _≡_ {A = ℕ} 6 0 = same 6 0 e in omega arith
+      never (suc (suc j)) e = let z : _≡_ {A = ℕ} 0 1 = cc in omega arith
 
   pub protect-leaves : protectCall on s .answer .refusal ≢ 0 → protectCall on s ≡ settled (refused (protectCall on s .answer .refusal)) s
   unfolding protectCall faultOf
@@ -190,6 +230,75 @@ module _ (rec p0 p1 : List ℕ) where
   unfolding mountCall mountFault
   mount-6 = Iff·trans (serves T rec made 6 (omega arith)) (Iff·trans (exactly T 6 3 refl (λ j e. only-there j 6 e)) (given comes-6 (λ _. sound-test)))
 
+  pub mount-0 : (mountCall rec p0 p1 .answer .refusal ≡ 0) ↔ (Mount6 rec p0 p1 × ¬ LentUnsound p0 p1)
+  unfolding mountCall mountFault
+  mount-0 = Iff·trans (serves-0 T rec made never) (given comes-6 (λ _. fails (not (bothSound p0 p1)) sound-test))
+    where
+      never : (j : ℕ) → givenAt T j ≡ some 0 → ⊥
+      never zero e = let z : _≡_ {A = ℕ} 4 0 = same 4 0 e in omega arith
+      never (suc zero) e = let z : _≡_ {A = ℕ} 5 0 = same 5 0 e in omega arith
+      never (suc (suc zero)) e = let z : _≡_ {A = ℕ} 7 0 = same 7 0 e in omega arith
+      never (suc (suc (suc zero))) e = let z : _≡_ {A = ℕ} 6 0 = same 6 0 e in omega arith
+      never (suc (suc (suc (suc j)))) e = let z : _≡_ {A = ℕ} 0 1 = cc in omega arith
+
   pub mount-leaves : mountCall rec p0 p1 .answer .refusal ≢ 0 → mountCall rec p0 p1 ≡ settled (refused (mountCall rec p0 p1 .answer .refusal)) rec
   unfolding mountCall mountFault
   mount-leaves = serves-none T rec made
+
+-- ---- the view, which refuses nothing: the empty part exactly where there is no block to view
+
+part-empty : (s : List ℕ) (i : ℕ) → (partOf s i .len ≡ 0) ↔ NoBlock s i
+unfolding partOf objectAt endAt
+part-empty s i = ((λ h. go (sound s) (ltb i (count s)) (topBit (entry s i)) refl refl refl h), back)
+  where
+    P : Part
+    P = record { start = endAt s i; len = endAt s (suc i) - endAt s i }
+
+    go : (a b c : Bool) → sound s ≡ a → ltb i (count s) ≡ b → topBit (entry s i) ≡ c → cond (a && b && not c) P emptyPart .len ≡ 0 → NoBlock s i
+    go false b c ea eb ec h = inl ea
+    go true false c ea eb ec h = inr (inl (object-past s i (ltb-false i (count s) eb)))
+    go true true true ea eb ec h = inr (inr (object-there s i (ltb-true i (count s) eb) ∙ rw ec refl))
+    go true true false ea eb ec h =
+        let k = sound-parts s ea in
+        let f = follows-size (endAt s i) (entry s i) (ordered-at s i (count s) (ltb-true i (count s) eb) (k .in-order)) ec in
+        absurd (omega (arith, f .0, h))
+
+    back : NoBlock s i → partOf s i .len ≡ 0
+    back (inl e) = rw e refl
+    back (inr (inl e)) = by (ltb i (count s)) refl
+      where
+        by : (t : Bool) → ltb i (count s) ≡ t → cond (sound s && t && not (topBit (entry s i))) P emptyPart .len ≡ 0
+        by true q = absurd (let z : none ≡ some (objectAt s i) = sym e ∙ object-there s i (ltb-true i (count s) q) in let y : _≡_ {A = ℕ} 0 1 = cc in omega arith)
+        by false q = off (sound s) (topBit (entry s i))
+          where
+            off : (a c : Bool) → cond (a && false && not c) P emptyPart .len ≡ 0
+            off true c = refl
+            off false c = refl
+    back (inr (inr e)) = by (ltb i (count s)) (topBit (entry s i)) refl refl
+      where
+        by : (t c : Bool) → ltb i (count s) ≡ t → topBit (entry s i) ≡ c → cond (sound s && t && not c) P emptyPart .len ≡ 0
+        by true true q f = off (sound s)
+          where
+            off : (a : Bool) → cond (a && true && not true) P emptyPart .len ≡ 0
+            off true = refl
+            off false = refl
+        by false c q f = off (sound s)
+          where
+            off : (a : Bool) → cond (a && false && not c) P emptyPart .len ≡ 0
+            off true = refl
+            off false = refl
+        by true false q f = absurd (let z : some filemark ≡ some (objectAt s i) = sym e ∙ object-there s i (ltb-true i (count s) q) in let w : some filemark ≡ some (block (slice (endAt s i) (endAt s (suc i)) s)) = z ∙ rw f refl in let y : _≡_ {A = ℕ} 0 1 = cc in omega arith)
+
+pub view-empty : (p0 p1 : List ℕ) (k i : ℕ) → (viewOf p0 p1 k i .len ≡ 0) ↔ NothingToView p0 p1 k i
+unfolding viewOf
+view-empty p0 p1 k i = ((λ h. go (eqb k 0) (eqb k 1) refl refl h), back)
+  where
+    go : (a b : Bool) → eqb k 0 ≡ a → eqb k 1 ≡ b → cond a (partOf p0 i) (cond b (partOf p1 i) emptyPart) .len ≡ 0 → NothingToView p0 p1 k i
+    go true b ea eb h = inl (eqb-true k 0 ea, part-empty p0 i .0 h)
+    go false true ea eb h = inr (inl (eqb-true k 1 eb, part-empty p1 i .0 h))
+    go false false ea eb h = inr (inr (eqb-false k 0 ea, eqb-false k 1 eb))
+
+    back : NothingToView p0 p1 k i → cond (eqb k 0) (partOf p0 i) (cond (eqb k 1) (partOf p1 i) emptyPart) .len ≡ 0
+    back (inl h) = rw (h .0) (part-empty p0 i .1 (h .1))
+    back (inr (inl h)) = rw (h .0) (part-empty p1 i .1 (h .1))
+    back (inr (inr h)) = rw (ne-eqb k 0 (h .0), ne-eqb k 1 (h .1)) refl

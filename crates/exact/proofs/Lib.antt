@@ -5,3 +5,4 @@ pub mod Senses
 pub mod Carried
 pub mod Small
 pub mod Numbers
+pub mod Residues

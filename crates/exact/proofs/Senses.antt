@@ -91,17 +91,19 @@ module _ (rec : List ℕ) (x : Lent) where
       let q = call-acts rec x e in
       (ap (λ (r : Result). r .answer .status) q, ap (λ (r : Result). decodeOf (r .rec) .sense) q ∙ sense-back (E .drive) (keptOf (E .tells)) (kept-whole (E .tells)))
 
-  -- status 02h: the sense that the act told
-  pub told-act : first T ≡ none → R .answer .status ≡ checkCondition → Told o (senseAfter R)
+  -- status 02h: the sense kept is the one that the act told
+  pub heard : first T ≡ none → R .answer .status ≡ checkCondition → E .tells ≡ some (senseAfter R)
   unfolding statusOf keptOf
-  told-act e h = go (E .tells) (act-tells d (x .cmd) (x .sent) (seen o d x) o) (sym (after-act e .0) ∙ h) (after-act e .1)
+  heard e h = go (E .tells) refl (act-tells d (x .cmd) (x .sent) (seen o d x) o) (sym (after-act e .0) ∙ h) (after-act e .1)
     where
-      go : (t : Option Sense) → ToldBy o t → statusOf t ≡ checkCondition → decodeOf (R .rec) .sense ≡ keptOf t → Told o (senseAfter R)
-      go none u h q = absurd (omega arith)
-      go (some s) u h q =
-          let k = u .key in
+      go : (t : Option Sense) → E .tells ≡ t → ToldBy o t → statusOf t ≡ checkCondition → decodeOf (R .rec) .sense ≡ keptOf t → E .tells ≡ some (senseAfter R)
+      go none p u h q = absurd (omega arith)
+      go (some s) p u h q =
           let spelt : Spellable s = subst Spellable (sym (u .is)) (told-held (counts o) (u .filemark) (u .eom) (u .ili) (u .key) (u .asc) (u .ascq) (u .residue) (u .key-small)) in
-          subst (Told o) (sym (ap partsOf q ∙ parts-made s spelt)) u
+          p ∙ ap (λ (y : Sense). some y) (sym (ap partsOf q ∙ parts-made s spelt))
+
+  pub told-act : first T ≡ none → R .answer .status ≡ checkCondition → Told o (senseAfter R)
+  told-act e h = subst (ToldBy o) (heard e h) (act-tells d (x .cmd) (x .sent) (seen o d x) o)
 
   -- ---- where a sense that only tests tell comes from
 
@@ -297,3 +299,33 @@ module _ (rec : List ℕ) (x : Lent) where
 
   pub told-6-29-00 : Tells R unitAttention powerOn unqualified ↔ ((ComesAttention rec x × AttentionWaits rec x) × (decodeOf rec .attention ≡ powerOn))
   told-6-29-00 = attention-told powerOn (λ e. omega arith) (λ e. omega arith) (omega arith) (omega arith)
+
+  -- ---- what a test tells: key, ASC and ASCQ alone, under a key that no residue goes with
+
+  pub record Plainly : Type 0 where
+    pub key : ℕ
+    pub asc : ℕ
+    pub ascq : ℕ
+    pub is : senseAfter R ≡ plainly key asc ascq
+    pub silent : reports true key ≡ false
+
+  by-fault : (k a q : ℕ) → k < 16 → reports true k ≡ false → first T ≡ some (fault k a q) → Plainly
+  by-fault k a q h s e = record { key = k; asc = a; ascq = q; is = after-fault k a q h e .1; silent = s }
+
+  plain-place : (j : ℕ) → R .answer .status ≡ checkCondition → first T ≡ givenAt T j → (p : Stop) → givenAt T j ≡ some p → Plainly
+  unfolding commandTests tests reports
+  plain-place zero s g p e = absurd (never 1 (omega arith) g s)
+  plain-place (suc zero) s g p e = absurd (never 4 (omega arith) g s)
+  plain-place (suc (suc zero)) s g p e = record { key = unitAttention; asc = d .attention; ascq = unqualified; is = after-attention g .1; silent = refl }
+  plain-place (suc (suc (suc zero))) s g p e = by-fault _ _ _ (omega arith) refl g
+  plain-place (suc (suc (suc (suc zero)))) s g p e = by-fault _ _ _ (omega arith) refl g
+  plain-place (suc (suc (suc (suc (suc zero))))) s g p e = by-fault _ _ _ (omega arith) refl g
+  plain-place (suc (suc (suc (suc (suc (suc zero)))))) s g p e = by-fault _ _ _ (omega arith) refl g
+  plain-place (suc (suc (suc (suc (suc (suc (suc zero))))))) s g p e = by-fault _ _ _ (omega arith) refl g
+  plain-place (suc (suc (suc (suc (suc (suc (suc (suc zero)))))))) s g p e = by-fault _ _ _ (omega arith) refl g
+  plain-place (suc (suc (suc (suc (suc (suc (suc (suc (suc zero))))))))) s g p e = absurd (never 2 (omega arith) g s)
+  plain-place (suc (suc (suc (suc (suc (suc (suc (suc (suc (suc zero)))))))))) s g p e = absurd (never 3 (omega arith) g s)
+  plain-place (suc (suc (suc (suc (suc (suc (suc (suc (suc (suc (suc j))))))))))) s g p e = absurd (let z : _≡_ {A = ℕ} 0 1 = cc in omega arith)
+
+  pub told-test : (p : Stop) → first T ≡ some p → R .answer .status ≡ checkCondition → Plainly
+  told-test p q s = let h = held T p q in plain-place (h .at) s (first-at T (h .at) (h .holds)) p (h .says)

@@ -50,7 +50,7 @@ bytes-drop n xs = omega (arith, ap bytesIn (take-append-drop n xs), bytes-append
 bytes-take : (n : ℕ) (xs : List Object) → bytesIn (take n xs) ≤ bytesIn xs
 bytes-take n xs = omega (arith, ap bytesIn (take-append-drop n xs), bytes-append (take n xs) (drop n xs))
 
-bytes-at : (xs : List Object) (i : ℕ) (bs : List ℕ) → getElem? xs i ≡ some (block bs) → length bs ≤ bytesIn xs
+pub bytes-at : (xs : List Object) (i : ℕ) (bs : List ℕ) → getElem? xs i ≡ some (block bs) → length bs ≤ bytesIn xs
 unfolding bytesIn
 bytes-at [] i bs e = absurd (let z : _≡_ {A = ℕ} 0 1 = cc in omega arith)
 bytes-at (x ∷ xs) zero bs e = let q : x ≡ block bs = cc in rw q (omega arith)

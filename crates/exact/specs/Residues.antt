@@ -21,3 +21,56 @@ use Rattle.commands.specs.Act.{Seen, goesDown, movement}
 -- "VALID is set for READ, WRITE, WRITE FILEMARKS and SPACE"
 abbrev pub counts : Operation → Bool
 counts o = among (Read ∷ Write ∷ WriteFilemarks ∷ Space ∷ []) o
+
+-- ---- READ
+
+-- a run of whole blocks from the position on, by FIXED
+abbrev pub fixedRun : Drive → List ℕ → Seen → Run
+fixedRun d cmd v = runOf (d .«block_length») (transferOf cmd) (drop (d .position) (v .objects))
+
+-- variable: "unequal gives ILI, information request − its length"; at a filemark or end of data "the request"
+abbrev pub leftOfOne : ℕ → Option Object → ℤ
+leftOfOne n (some (block bs)) = subℕ n (length bs)
+leftOfOne n (some filemark) = pos n
+leftOfOne n none = pos n
+
+-- "Residue: FIXED, blocks not read; variable, the request."
+abbrev pub readResidue : Drive → List ℕ → Seen → ℤ
+readResidue d cmd v = cond (fixedOf cmd) (subℕ (transferOf cmd) (fixedRun d cmd v .blocks)) (leftOfOne (transferOf cmd) (getElem? (v .objects) (d .position)))
+
+-- how many objects it crosses: those of the run; the one at the position, if there is one
+abbrev pub crossesOne : Option Object → ℕ
+crossesOne (some o) = 1
+crossesOne none = 0
+
+abbrev pub readCrosses : Drive → List ℕ → Seen → ℕ
+readCrosses d cmd v = cond (eqb (transferOf cmd) 0) 0 (cond (fixedOf cmd) (fixedRun d cmd v .crossed) (crossesOne (getElem? (v .objects) (d .position))))
+
+-- ---- WRITE and WRITE FILEMARKS: "residue not put (variable: the request)"; "All put ..: information 0"
+
+abbrev pub writeResidue : Drive → List ℕ → List ℕ → Seen → ℤ
+writeResidue d cmd sent v =
+    let put = length (goesDown Write d cmd sent v) in
+    cond (fixedOf cmd) (subℕ (transferOf cmd) put) (cond (eqb put 1) (pos 0) (pos (transferOf cmd)))
+
+abbrev pub marksResidue : Drive → List ℕ → List ℕ → Seen → ℤ
+marksResidue d cmd sent v = subℕ (transferOf cmd) (length (goesDown WriteFilemarks d cmd sent v))
+
+-- ---- SPACE: "Residue = count − signed movement of what is counted"
+
+abbrev pub spaceResidue : Drive → List ℕ → Seen → ℤ
+spaceResidue d cmd v = M.residue (spaceCountOf cmd) (movement cmd (d .position) (v .objects))
+
+-- ---- each
+
+unfoldable pub residueOf : Operation → Drive → List ℕ → List ℕ → Seen → ℤ
+residueOf o d cmd sent v =
+    cond (among (Read ∷ []) o) (readResidue d cmd v)
+    (cond (among (Write ∷ []) o) (writeResidue d cmd sent v)
+    (cond (among (WriteFilemarks ∷ []) o) (marksResidue d cmd sent v) (spaceResidue d cmd v)))
+
+-- where it leaves the position: behind the objects crossed, or put; where the movement ends
+unfoldable pub placeAfter : Operation → Drive → List ℕ → List ℕ → Seen → ℕ
+placeAfter o d cmd sent v =
+    cond (among (Read ∷ []) o) (d .position + readCrosses d cmd v)
+    (cond (among (Space ∷ []) o) (movement cmd (d .position) (v .objects) .to) (d .position + length (goesDown o d cmd sent v)))

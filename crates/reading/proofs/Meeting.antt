@@ -82,7 +82,7 @@ unfolding objectAt
 block-there s p from to k h t ef et = object-there s p h ∙ rw (t, ef, et, part-is (endAt s p) (endAt s (p + 1)) s (lies s k p h .grows), add-one p) refl
 
 -- a request of which nothing was read
-all-left : (n : ℕ) → subℕ n 0 ≡ pos n
+pub all-left : (n : ℕ) → subℕ n 0 ≡ pos n
 all-left n = subℕ-cases (λ z. z ≡ pos n) n 0 (λ h. absurd (not-suc-le-zero h)) (λ h. ap pos (minus-zero n))
   where
     minus-zero : (n : ℕ) → n - 0 ≡ n
