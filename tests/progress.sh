@@ -26,15 +26,6 @@ each_line() { # COMMAND...
     done
 }
 
-print_indented() { printf '    %s\n' "$1"; }
-
-# Runs a command, and shows what it prints so that none of its lines can be taken for a verdict of ours.
-indented() { # COMMAND...
-    local began=0 unchanged=0
-    "$@" 2>&1 | each_line print_indented
-    return "${PIPESTATUS[0]}"
-}
-
 # ---- rt
 
 # One proof more at a time than there are processors: each waits for its files now and then.
