@@ -100,6 +100,14 @@ traps =
     alone (loaded 0 1 0 nothingKept) (six 0x08 0 1) full [] (zeros 1) (check 0) (loaded 0 1 0 (sense18 0xF0 0x08 1 0x00 0x05)) full (zeros 1) ∷
     turns (loaded 0 1 0 nothingKept) (six 0x11 0 1) full (check 0) (loaded 0 1 0 (sense18 0xF0 0x08 1 0x00 0x05)) ∷
     turns (loaded 0 0 0 nothingKept) (locate 2) full (check 0) (loaded 0 1 0 (plain 8 0x00 0x05)) ∷
+    -- SILI hides an unequal length, a short block or, with block length 0, a long one; not a long one with another block length
+    alone (loaded 0 0 0 nothingKept) (six 0x08 2 5) E [] (replicate 5 9) (goodAnswer 3) (loaded 0 1 0 nothingKept) E (1 ∷ 2 ∷ 3 ∷ 9 ∷ 9 ∷ []) ∷
+    alone (loaded 0 0 7 nothingKept) (six 0x08 2 5) E [] (replicate 5 9) (goodAnswer 3) (loaded 0 1 7 nothingKept) E (1 ∷ 2 ∷ 3 ∷ 9 ∷ 9 ∷ []) ∷
+    alone (loaded 0 0 7 nothingKept) (six 0x08 2 2) E [] (replicate 2 9) (check 2) (loaded 0 1 7 (sense18 0xF0 0x20 0xFFFFFFFF 0x00 0x00)) E (1 ∷ 2 ∷ []) ∷
+    -- READ with both FIXED and SILI is a field error, whatever the block length
+    turns (loaded 0 0 3 nothingKept) (six 0x08 3 1) E (check 0) (loaded 0 0 3 (plain 5 0x24 0)) ∷
+    -- LOAD: partition 0, position 0
+    record { rec = (1 ∷ 2 ∷ 1 ∷ 0 ∷ []) ++ bytes 4 2 ++ bytes 4 9 ++ plain 5 0x24 0; lends = lent (six 0x1B 0 1) E E [] []; leaves = result (goodAnswer 0) ((1 ∷ 2 ∷ 0 ∷ 0 ∷ []) ++ bytes 4 0 ++ bytes 4 9 ++ nothingKept) (lent (six 0x1B 0 1) E E [] []) } ∷
     -- any kept sense is well formed, and is returned as it is
     turns (loaded 0 0 0 (replicate 18 0xFF)) (six 0x00 0 0) E (goodAnswer 0) (loaded 0 0 0 nothingKept) ∷
     alone (loaded 0 0 0 (zeros 18)) (six 0x03 0 0x12) E [] (replicate 18 0xFF) (goodAnswer 18) (loaded 0 0 0 nothingKept) E (zeros 18) ∷

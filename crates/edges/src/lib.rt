@@ -1,1 +1,1 @@
-// The edge cases of document 01 that are marked P: one table (specs/Cases.antt) under one statement (proofs/Table.antt).
+// Document 01's cases and its example E, and more beside them, computed from the definitions; no code.

@@ -1,1 +1,1 @@
-// What a reader quotes of the services: that each promise determines the whole outcome; no code.
+// What a reader quotes of demands 1 and 2: refusals, senses, bytes carried, residues, C numbers, determinacy; no code.
