@@ -1,14 +1,14 @@
 -- Demand 1 of a command, on the answer of the call: each refusal is given exactly under its condition of 01's table, by the command order, and no
 -- other is; a refused call leaves every byte.
 -- Assumes nothing.
-use Prim.Native.Nat.{ℕ, zero, suc, _<_, _≤_}
+use Prim.Native.Nat.{ℕ, zero, suc, _<_}
 use mathlib.Core.Path.{_≡_, refl, sym, ap, _∙_, subst}
-use mathlib.Core.Logic.{_↔_, _≢_, _⊎_, inl, inr, Iff·trans, Iff·symm}
+use mathlib.Core.Logic.{_↔_, _≢_, _⊎_, inl, inr, Iff·trans}
 use mathlib.Core.Bool.{Bool, true, false, cond, not, _&&_, _||_}
 use mathlib.Core.Option.{Option, none, some}
 use mathlib.Core.List.{List, [], _∷_}
 use native.Mathlib.Omega.{arith}
-use borrow.Author.Tests.{eqb-true, eqb-false, eq-eqb, ne-eqb, lt-ltb}
+use borrow.Author.Tests.{eqb-true, eqb-false, eq-eqb, lt-ltb}
 use lib.Dec.{eqb, leb, ltb}
 use lib.ListN.{length}
 use Rattle.answers.specs.Answers.{commandShort, sentShort, receivedShort, recordFault, refused, first}
@@ -26,11 +26,11 @@ use Rattle.commands.specs.Kinds.{among, passesAttention, isServed, needs
 use Rattle.commands.specs.Parameters.{headerLength, wholeLength, listLengthKnown}
 use Rattle.commands.specs.Tests.{fieldError, taken, needed, tests}
 use Rattle.commands.specs.Step.{stopped, acted}
-use Rattle.commands.specs.Call.{Lent, Result, result, partition, looksAt, seenOf, seen, inserted, faulty, applied, written, commandCall, commandTests}
-use Rattle.commands.specs.Conditions.{Empty, RecordWrong, Unsound, LentUnsound, BlockShort, CartridgeWrong, DriveWrong, AttentionWaits, CodeNotServed, FieldWrong, ListLengthWrong, NothingLoaded, NoSuchPartition, WriteProtected, SentShort, ReceivedShort}
+use Rattle.commands.specs.Call.{Lent, Result, result, partition, looksAt, seenOf, seen, inserted, faulty, applied, commandCall, commandTests}
+use Rattle.commands.specs.Conditions.{Empty, RecordWrong, Unsound, BlockShort, CartridgeWrong, DriveWrong, AttentionWaits, CodeNotServed, FieldWrong, ListLengthWrong, NothingLoaded, NoSuchPartition, WriteProtected, SentShort, ReceivedShort}
 use Rattle.commands.specs.Conditions.{Comes4, ComesAttention, ComesCode, ComesFields, ComesListLength, ComesCartridge, ComesPartition, ComesProtection, Comes2, Comes3, Acts}
 use Rattle.commands.proofs.Faultless.{Well, inside, fault-free}
-use Rattle.commands.proofs.Ends.{stoppedAt, call-stops, call-acts, refused-leaves}
+use Rattle.commands.proofs.Ends.{call-stops, call-acts, refused-leaves}
 
 -- ---- what command it is
 

@@ -1,11 +1,11 @@
 -- "bytes carried: to the receiving buffer, put by WRITE, or taken by a GOOD MODE SELECT, else 0", of every call; and "Bytes past those carried stay."
 -- Assumes nothing.
-use Prim.Native.Nat.{ℕ, zero, suc, _+_, _*_, _≤_, _<_, _^_, min}
+use Prim.Native.Nat.{ℕ, zero, suc, _+_, _*_, _≤_}
 use mathlib.Core.Path.{_≡_, refl, sym, ap, _∙_, subst}
 use mathlib.Core.Logic.{_≢_}
-use mathlib.Core.Bool.{Bool, true, false, cond, not, _&&_, _||_}
+use mathlib.Core.Bool.{Bool, true, false, cond}
 use mathlib.Core.Option.{Option, none, some}
-use mathlib.Core.List.{List, [], _∷_, _++_}
+use mathlib.Core.List.{List, [], _∷_}
 use native.Mathlib.Nat.{zero-mul, suc-mul, add-comm, mul-le-mul-right}
 use native.Mathlib.Omega.{arith}
 use borrow.Author.Tests.{eqb-true, eq-eqb, ne-eqb}
@@ -20,7 +20,7 @@ use Rattle.words.specs.Words.{over}
 use Rattle.words.proofs.Laws.{over-nil, drop-over, length-over}
 use Rattle.objects.specs.Object.{Object, filemark, block, bytesIn}
 use Rattle.objects.specs.Room.{roomOf, zoneIn}
-use Rattle.objects.specs.Transfer.{whole, oddLength, atFilemark, atEnd, Run, halted, wholeBefore, runOf}
+use Rattle.objects.specs.Transfer.{whole, oddLength, Run, halted, wholeBefore, runOf}
 use Rattle.sense.specs.declared.Sense.{Sense}
 use Rattle.sense.specs.Sense.{illegalRequest, invalidListField, unqualified, plainly}
 use Rattle.record.specs.declared.drive.Drive.{Drive}

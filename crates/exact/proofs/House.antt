@@ -1,22 +1,22 @@
 -- Demand 1 of the house services, on the answer of each: a refusal is given exactly under its condition of 01's table, by the order of the tests, and
 -- no other is; a refused service leaves every byte. The view refuses nothing: when it is empty.
 -- Assumes nothing.
-use Prim.Native.Nat.{ℕ, zero, suc, _<_, _≤_, _+_, _-_}
-use mathlib.Core.Path.{_≡_, refl, sym, ap, _∙_, subst}
+use Prim.Native.Nat.{ℕ, zero, suc, _<_, _-_}
+use mathlib.Core.Path.{_≡_, refl, sym, ap, _∙_}
 use mathlib.Core.Logic.{_↔_, _≢_, _⊎_, inl, inr, Iff·trans}
 use mathlib.Core.Bool.{Bool, true, false, cond, not, _&&_, _||_}
 use mathlib.Core.Option.{Option, none, some}
-use mathlib.Core.List.{List, [], _∷_}
+use mathlib.Core.List.{List}
 use native.Mathlib.Omega.{arith}
 use borrow.Author.Tests.{eqb-true, eqb-false, ne-eqb, ltb-true, ltb-false}
 use lib.Dec.{eqb, leb, ltb}
-use lib.ListN.{length, getElem?}
+use lib.ListN.{length}
 use lib.Seq.{slice}
 use Rattle.answers.specs.Answers.{recordFault, alreadyLoaded, unsoundImage, wrongLength, refused, first, refusalOf, Settled, settled, settledBy}
-use Rattle.answers.proofs.First.{NoneBefore, FirstAt, givenAt, held, exactly, none-held, none-holds, Decides, fails, given, false-test, no-test, and-test, or-test, nand-test, same-test, most-test}
+use Rattle.answers.proofs.First.{NoneBefore, givenAt, held, exactly, none-held, none-holds, Decides, fails, given, false-test, no-test, and-test, nand-test, same-test}
 use Rattle.objects.specs.Object.{filemark, block}
 use Rattle.image.specs.declared.part.Part.{Part}
-use Rattle.image.specs.Image.{leastLength, mostLength, rightLength, sound, count, entry, topBit, endAt, objectAt, objects, faultOf, imageTests, absent}
+use Rattle.image.specs.Image.{leastLength, mostLength, rightLength, sound, count, entry, topBit, endAt, objectAt, faultOf, imageTests, absent}
 use Rattle.image.specs.Parts.{emptyPart, partOf}
 use Rattle.image.proofs.Facts.{sound-parts, ordered-at, follows-size}
 use Rattle.image.proofs.Objects.{object-there, object-past}

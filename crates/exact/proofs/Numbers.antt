@@ -11,26 +11,24 @@ use native.Mathlib.Omega.{arith}
 use borrow.Author.Tests.{ltb-true}
 use lib.Dec.{eqb, ltb}
 use Rattle.answers.specs.declared.Answer.{Answer}
-use Rattle.answers.specs.Answers.{checkCondition, commandShort, sentShort, receivedShort, recordFault, refused, answered, done, first, refusalOf, Settled, settled, settledBy, packed, packedPart}
-use Rattle.answers.proofs.First.{givenAt, held}
+use Rattle.answers.specs.Answers.{checkCondition, commandShort, sentShort, receivedShort, recordFault, refused, done, first, refusalOf, settled, settledBy, packed, packedPart}
 use Rattle.image.specs.declared.part.Part.{Part}
 use Rattle.image.specs.Image.{count, entry, topBit, endAt, sound, faultOf, imageTests}
 use Rattle.image.specs.Parts.{emptyPart, partOf}
 use Rattle.image.proofs.Facts.{end-lt}
 use Rattle.image.proofs.Tests.{both}
 use Rattle.sense.specs.declared.Sense.{Sense}
-use Rattle.record.specs.Record.{decodeOf, encodeOf, withSense}
 use Rattle.codes.specs.declared.operation.Operation.{Operation}
 use Rattle.codes.specs.Codes.{codeOf, operationOf}
 use Rattle.house.specs.Mount.{freshTests, freshCall, mountTests, mountFault, mountCall}
 use Rattle.house.specs.Images.{blankTests, blankCall, protectCall}
 use Rattle.house.specs.Views.{viewOf}
-use Rattle.commands.specs.Step.{statusOf, checkAnswer, acted}
-use Rattle.commands.specs.Call.{Lent, Result, result, applied, commandCall}
-use Rattle.commands.proofs.Exact.{Refusal, refusals}
+use Rattle.commands.specs.Step.{statusOf, acted}
+use Rattle.commands.specs.Call.{Lent, Result, applied, commandCall}
+use Rattle.commands.proofs.Exact.{refusals}
 use Rattle.history.proofs.Ended.{Finished, by-number, by-sense, by-act, ended}
 use Rattle.stormtoggle.specs.Calls.{numbered, viewNumber, numberedResult}
-use Rattle.exact.specs.Numbers.{carriedIn, refusalIn, statusIn, lengthIn, startIn, Fits, Says, Shows}
+use Rattle.exact.specs.Numbers.{carriedIn, refusalIn, statusIn, Fits, Says, Shows}
 use Rattle.exact.proofs.Small.{carries}
 
 -- ---- a number, by its parts

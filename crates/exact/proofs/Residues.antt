@@ -1,32 +1,32 @@
 -- What READ, WRITE, WRITE FILEMARKS and SPACE report, on the record after the call: VALID exactly by 01's rule; the information is the 32-bit encoding
 -- of the residue that 01's bullet names, and reading it back as a signed number gives that residue; the position stands behind the objects crossed or put.
 -- Assumes nothing.
-use Prim.Native.Nat.{ℕ, zero, suc, _+_, _-_, _*_, _%_, _^_, _≤_, _<_}
+use Prim.Native.Nat.{ℕ, zero, suc, _+_, _-_, _%_, _^_, _≤_, _<_}
 use mathlib.Core.Path.{_≡_, refl, sym, ap, _∙_, subst}
-use mathlib.Core.Logic.{_↔_, _≢_, _⊎_, inl, inr, Iff·trans}
-use mathlib.Core.Bool.{Bool, true, false, cond, not, _&&_, _||_}
+use mathlib.Core.Logic.{_↔_, _⊎_}
+use mathlib.Core.Bool.{Bool, true, false, cond, not, _||_}
 use mathlib.Core.Option.{Option, none, some}
 use mathlib.Core.List.{List, [], _∷_}
 use native.Mathlib.Nat.{add-zero}
 use native.Mathlib.Numerals.{add-one}
 use native.Mathlib.Omega.{arith}
-use borrow.Author.Tests.{eqb-true, eqb-false, not-false}
+use borrow.Author.Tests.{eqb-true, eqb-false}
 use lib.Bits.{bitAnd, and-mask}
 use lib.Dec.{eqb, ltb}
 use lib.IntN.{ℤ, pos, negsuc, negℤ, subℕ}
-use lib.ListN.{length, take, drop, getD, getElem?, length-take}
+use lib.ListN.{length, take, drop, getD, getElem?}
 use Rattle.words.specs.Words.{be}
 use Rattle.words.specs.Signed.{signed, wrapped}
 use Rattle.words.proofs.Wraps.{subℕ-cases, signed-low, signed-high}
 use Rattle.answers.specs.Answers.{checkCondition, first}
 use Rattle.answers.proofs.First.{not-both, Decides, and-test, or-three, same-test, true-test}
-use Rattle.objects.specs.Object.{Object, filemark, block, dataOf, bytesIn, largestBlock}
+use Rattle.objects.specs.Object.{Object, filemark, block, dataOf, bytesIn}
 use Rattle.objects.specs.Movement as M
 use Rattle.objects.specs.Room.{roomOf, fitsIn, zoneIn}
-use Rattle.objects.specs.Transfer.{Ended, whole, oddLength, atFilemark, atEnd, runOf, fitting}
+use Rattle.objects.specs.Transfer.{Ended, whole, oddLength, atFilemark, atEnd, fitting}
 use Rattle.objects.proofs.Residue.{residue-on, residue-back}
 use Rattle.sense.specs.declared.Sense.{Sense}
-use Rattle.sense.specs.Sense.{noSense, blankCheck, volumeOverflow, partsOf, senseBytes, reports, told}
+use Rattle.sense.specs.Sense.{noSense, blankCheck, volumeOverflow, reports, told}
 use Rattle.record.specs.declared.drive.Drive.{Drive}
 use Rattle.record.specs.Record.{decodeOf, encodeOf, withSense}
 use Rattle.codes.specs.declared.operation.Operation.{Operation}
@@ -37,7 +37,7 @@ use Rattle.codes.proofs.Rules.{Found, here, nowhere, found}
 use Rattle.commands.specs.Stop.{Stop, refuse}
 use Rattle.commands.specs.Kinds.{needsCartridge}
 use Rattle.commands.specs.Conditions.{Acts}
-use Rattle.commands.specs.Act.{Seen, Deed, good, checked, carrying, at, filemarkMet, endMet, oddMet, beginningMet, warned, overflowed, hidden, readVariable, readRun, runTells, reading, offered, goesDown, wrote, writing, marking, overBlocks, toEnd, spaceTells, movement, spacing, act}
+use Rattle.commands.specs.Act.{Seen, Deed, good, checked, carrying, at, oddMet, warned, overflowed, hidden, readVariable, readRun, runTells, reading, offered, goesDown, wrote, writing, marking, overBlocks, toEnd, spaceTells, movement, spacing, act}
 use Rattle.commands.specs.Tests.{fieldError, tests}
 use Rattle.commands.specs.Step.{statusOf, keptOf, acted}
 use Rattle.commands.specs.Call.{Lent, Result, partition, looksAt, seenOf, seen, applied, written, commandCall, commandTests}
@@ -53,7 +53,7 @@ use Rattle.history.proofs.Ended.{Finished, by-number, by-sense, by-act, ended}
 use Rattle.history.proofs.Answered.{length-blocks, length-marks}
 use Rattle.exact.specs.Senses.{senseAfter}
 use Rattle.exact.specs.Residues.{counts, fixedRun, leftOfOne, readResidue, crossesOne, readCrosses, writeResidue, marksResidue, spaceResidue, residueOf, placeAfter}
-use Rattle.exact.proofs.Tells.{Told, ToldBy, act-tells}
+use Rattle.exact.proofs.Tells.{Told}
 use Rattle.exact.proofs.Senses.{Plainly, after-act, heard, told-act, told-test}
 use Rattle.exact.proofs.Carried.{run-most}
 use Rattle.exact.proofs.Small.{bytes-at, image-small}

@@ -4,17 +4,16 @@
 use Prim.Native.Nat.{ℕ, zero, suc, _<_, _≤_}
 use mathlib.Core.Path.{_≡_, refl, sym, ap, _∙_, subst}
 use mathlib.Core.Logic.{_↔_, _≢_, _⊎_, inl, inr}
-use mathlib.Core.Bool.{Bool, true, false, cond, not, _&&_, _||_}
+use mathlib.Core.Bool.{Bool, true, false, not}
 use mathlib.Core.Option.{Option, none, some}
-use mathlib.Core.List.{List, [], _∷_}
+use mathlib.Core.List.{List}
 use native.Mathlib.Omega.{arith}
-use borrow.Author.Tests.{eqb-true}
 use lib.Dec.{eqb}
 use lib.IntN.{pos}
 use lib.ListN.{length}
 use lib.Seq.{take-all}
 use Rattle.answers.specs.Answers.{checkCondition, first}
-use Rattle.answers.proofs.First.{FirstAt, givenAt, HeldAt, held, first-at, or-three, same-test}
+use Rattle.answers.proofs.First.{FirstAt, givenAt, held, first-at, or-three, same-test}
 use Rattle.words.specs.Words.{bytes}
 use Rattle.sense.specs.declared.Sense.{Sense}
 use Rattle.sense.specs.Sense.{senseLength, notReady, illegalRequest, unitAttention, dataProtect, noAdditional, unqualified, listLengthError, invalidOperationCode, invalidField, invalidListField, writeProtected, mediumNotPresent, senseBytes, partsOf, reports, told, plainly, attentionSense}
@@ -27,10 +26,10 @@ use Rattle.commands.specs.Stop.{Stop, refuse, attend, fault}
 use Rattle.commands.specs.Act.{Deed, unattended, act}
 use Rattle.commands.specs.Tests.{tests}
 use Rattle.commands.specs.Step.{statusOf, keptOf, stopped, acted}
-use Rattle.commands.specs.Call.{Lent, Result, result, seen, applied, written, commandCall, commandTests}
+use Rattle.commands.specs.Call.{Lent, Result, seen, applied, written, commandCall, commandTests}
 use Rattle.commands.specs.Conditions.{AttentionWaits, CodeNotServed, FieldWrong, ListLengthWrong, NothingLoaded, NoSuchPartition, WriteProtected}
 use Rattle.commands.specs.Conditions.{ComesAttention, ComesCode, ComesFields, ComesListLength, ComesCartridge, ComesPartition, ComesProtection}
-use Rattle.commands.proofs.Faultless.{sense-whole, attention-whole, kept-whole}
+use Rattle.commands.proofs.Faultless.{sense-whole, kept-whole}
 use Rattle.commands.proofs.Ends.{call-stops, call-acts}
 use Rattle.commands.proofs.Exact.{well-drive, at-attention, at-code, at-fields, at-list-length, at-cartridge, at-partition, at-protection}
 use Rattle.history.proofs.ReadBack.{told-held}

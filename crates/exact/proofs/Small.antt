@@ -1,26 +1,24 @@
 -- The bytes that a call carries are fewer than 2^32: what is read lies in a partition, what is put fits one, and a reply is short.
 -- Assumes nothing.
 use Prim.Native.Nat.{ℕ, zero, suc, _+_, _≤_, _<_, _^_, min}
-use mathlib.Core.Path.{_≡_, refl, sym, ap, _∙_, subst}
-use mathlib.Core.Logic.{_≢_, _⊎_, inl, inr}
-use mathlib.Core.Bool.{Bool, true, false, cond, not, _&&_}
+use mathlib.Core.Path.{_≡_, refl, ap, _∙_}
+use mathlib.Core.Logic.{_⊎_, inl, inr}
+use mathlib.Core.Bool.{Bool, true, false, cond}
 use mathlib.Core.Option.{Option, none, some}
 use mathlib.Core.List.{List, [], _∷_}
 use native.Mathlib.Nat.{le-refl}
 use native.Mathlib.Omega.{arith}
-use borrow.Author.Tests.{leb-true, not-true, not-false}
-use lib.Dec.{eqb, leb}
-use lib.IntN.{subℕ}
+use borrow.Author.Tests.{leb-true, not-false}
+use lib.Dec.{eqb}
 use lib.ListN.{length, take, drop, getD, getElem?, length-take, take-append-drop}
 use lib.Seq.{take-all}
 use Rattle.answers.specs.Answers.{first}
-use Rattle.answers.proofs.First.{not-both, Decides, or-three, same-test}
+use Rattle.answers.proofs.First.{or-three, same-test}
 use Rattle.objects.specs.Object.{Object, filemark, block, dataOf, bytesIn}
-use Rattle.objects.specs.Room.{roomOf, fitsIn, usedOf, trailerLength, entryLength}
+use Rattle.objects.specs.Room.{roomOf, fitsIn, entryLength}
 use Rattle.objects.specs.Transfer.{runOf, fitting}
 use Rattle.objects.proofs.Count.{bytes-append}
-use Rattle.objects.proofs.Fitting.{fitting-more, fitting-none}
-use Rattle.image.specs.Image.{count, endAt, objects, mostLength}
+use Rattle.image.specs.Image.{count, endAt, objects}
 use Rattle.image.proofs.Facts.{Sound, end-lt}
 use Rattle.image.proofs.Objects.{length-objects, end-bytes}
 use Rattle.record.specs.declared.drive.Drive.{Drive}

@@ -1,11 +1,11 @@
 -- What an act may tell: always by `told`, counting for READ, WRITE, WRITE FILEMARKS and SPACE alone, and never what only a test tells.
 -- Assumes nothing.
-use Prim.Native.Nat.{ℕ, zero, suc, _+_, _<_, _^_}
-use mathlib.Core.Path.{_≡_, refl, sym, ap, _∙_, subst}
+use Prim.Native.Nat.{ℕ, suc, _+_, _<_}
+use mathlib.Core.Path.{_≡_, refl, subst}
 use mathlib.Core.Logic.{_⊎_, inl, inr}
-use mathlib.Core.Bool.{Bool, true, false, cond, not, _&&_, _||_}
+use mathlib.Core.Bool.{Bool, true, false, cond, _||_}
 use mathlib.Core.Option.{Option, none, some}
-use mathlib.Core.List.{List, [], _∷_}
+use mathlib.Core.List.{List}
 use native.Mathlib.Omega.{arith}
 use lib.Dec.{eqb}
 use lib.IntN.{ℤ, pos, negsuc, subℕ}
@@ -21,7 +21,7 @@ use Rattle.codes.specs.declared.operation.Operation.{Operation}
 use Rattle.codes.specs.declared.operation.Operation.the-variants.{TestUnitReady, Rewind, RequestSense, ReadBlockLimits, Read, Write, WriteFilemarks, Space, ModeSelect, Erase, ModeSense, LoadUnload, Locate, ReadPosition, NotServed}
 use Rattle.codes.specs.Fields.{fixedOf, transferOf, spaceCountOf, objectOf, allocationOf}
 use Rattle.commands.specs.Parameters.{wholeLength, listRight, newLength}
-use Rattle.commands.specs.Act.{Seen, Deed, good, checked, carrying, readRun, at, eomAtEnd, filemarkMet, endTold, endMet, oddMet, beginningMet, warned, overflowed, hidden, readVariable, runTells, reading, goesDown, wrote, writing, marking, spaceTells, movement, spacing, targetOf, locateTells, locating, selecting, withLength, act}
+use Rattle.commands.specs.Act.{Seen, good, checked, carrying, readRun, at, eomAtEnd, oddMet, warned, overflowed, hidden, readVariable, runTells, reading, goesDown, wrote, writing, marking, spaceTells, movement, spacing, targetOf, locateTells, locating, selecting, withLength, act}
 use Rattle.exact.specs.Residues.{counts}
 
 -- a sense that the command o may tell

@@ -10,7 +10,7 @@ use lib.ListN.{length, getElem?}
 use Rattle.objects.specs.Object.{filemark}
 use Rattle.image.specs.Image.{leastLength, mostLength, objects}
 use Rattle.record.specs.Record.{decodeOf}
-use Rattle.commands.specs.Conditions.{Empty, RecordWrong, Unsound, LentUnsound}
+use Rattle.commands.specs.Conditions.{Empty, RecordWrong, Unsound}
 
 -- 7: "length outside 64 to 1,073,741,824"
 abbrev pub LengthOutside : List ℕ → Type 0

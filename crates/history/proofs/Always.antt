@@ -4,7 +4,7 @@ use Prim.Native.Nat.{ℕ, suc, _+_, _≤_, zero-le}
 use native.Mathlib.Omega.{arith}
 use mathlib.Core.Path.{_≡_, refl, sym, ap, _∙_, subst}
 use mathlib.Core.Bool.{Bool, true, false, cond, not, _&&_, _||_}
-use mathlib.Core.Option.{none, some}
+use mathlib.Core.Option.{none}
 use mathlib.Core.List.{List, [], _∷_}
 use borrow.Author.Tests.{not-true, eqb-true, eqb-false}
 use lib.Dec.{eqb}
@@ -25,12 +25,11 @@ use Rattle.codes.specs.declared.operation.Operation.the-variants.{TestUnitReady
 use Rattle.codes.specs.Codes.{codeOf, operationOf}
 use Rattle.image.specs.Image.{absent}
 use Rattle.house.specs.Mount.{partitionsOf, rightLengths, bothSound, mountFault, mountCall}
-use Rattle.commands.specs.Stop.{refuse}
 use Rattle.commands.specs.Kinds.{erases, needsCartridge, writes}
 use Rattle.commands.specs.Act.{Seen, at, targetOf, locating, goesDown, act, eventsOf}
 use Rattle.commands.specs.Tests.{tests}
 use Rattle.commands.specs.Step.{acted, keptOf}
-use Rattle.commands.specs.Call.{Lent, lent, Result, partition, looksAt, seen, seenOf, inserted, written, commandTests, commandCall, laidOut, applied}
+use Rattle.commands.specs.Call.{Lent, lent, Result, partition, looksAt, seen, seenOf, inserted, written, commandCall, laidOut, applied}
 use Rattle.commands.proofs.Exact.{drive-test, refused-4}
 use Rattle.image.proofs.Judged.{never-both}
 use Rattle.commands.proofs.Passed.{passed}

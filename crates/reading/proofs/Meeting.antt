@@ -1,13 +1,13 @@
 -- What a READ without FIXED meets at the position, and what it then leaves; and which of the two READs is done.
 -- Assumes nothing.
-use Prim.Native.Nat.{ℕ, zero, suc, _+_, _-_, _*_, _^_, _≤_, _<_}
+use Prim.Native.Nat.{ℕ, _+_, _-_, _*_, _^_, _≤_, _<_}
 use native.Mathlib.Nat.{not-suc-le-zero}
 use native.Mathlib.Numerals.{add-one}
 use native.Mathlib.Omega.{arith}
 use mathlib.Core.Path.{_≡_, refl, sym, ap, _∙_}
 use mathlib.Core.Bool.{Bool, true, false, not, _&&_, _||_}
-use mathlib.Core.Option.{none, some}
-use mathlib.Core.List.{List, [], _∷_}
+use mathlib.Core.Option.{some}
+use mathlib.Core.List.{List}
 use borrow.Author.Tests.{eq-eqb, ne-eqb, eqb-false, lt-ltb, le-ltb, not-true, not-false}
 use lib.Dec.{eqb}
 use lib.IntN.{pos, subℕ}
@@ -16,7 +16,7 @@ use Rattle.words.specs.Words.{over, limited}
 use Rattle.words.proofs.Laws.{over-nil, part-is}
 use Rattle.words.proofs.Wraps.{subℕ-cases}
 use Rattle.sense.specs.declared.Sense.{Sense}
-use Rattle.objects.specs.Object.{Object, filemark, block}
+use Rattle.objects.specs.Object.{filemark, block}
 use Rattle.image.specs.Image.{count, entry, topBit, endAt, objectAt, objects, sound}
 use Rattle.image.proofs.Judged.{never-both}
 use Rattle.image.proofs.Objects.{object-there, object-past}
