@@ -1,6 +1,6 @@
 #!/usr/bin/env bash
 # listing.sh PROGRAM [RUNNER]: holds the listing program's exact output on made images to document 01, whichever way its
-# input comes in and its output is taken: no proof reaches its main. listing_faults.sh shows that these runs can fail.
+# input comes in and its output is taken: no proof reaches its main. listing/faults.sh shows that these runs can fail.
 # RUNNER is the command, in one word, that runs PROGRAM where the machine does not.
 set -u
 program=$(realpath "$1") || exit 2
@@ -11,8 +11,8 @@ listing+=("$program")
 
 room=$(mktemp -d) || exit 2
 trap 'rm -rf "$room"' EXIT
-"$compiler" "${flags[@]}" -o "$room/make_image" tests/make_image.c || exit 2
-"$compiler" "${flags[@]}" -fPIC -shared -o "$room/io.so" tests/listing_io.c || exit 2
+"$compiler" "${flags[@]}" -o "$room/make_image" tests/listing/make_image.c || exit 2
+"$compiler" "${flags[@]}" -fPIC -shared -o "$room/io.so" tests/listing/io.c || exit 2
 # An emulator is told what the program loads first; the library is none of its own.
 preload=LD_PRELOAD=$room/io.so
 [ "${#listing[@]}" -eq 1 ] || preload=QEMU_SET_ENV=$preload
@@ -27,11 +27,14 @@ judge() { # ENDED WHAT
         return
     fi
     failed=$((failed + 1))
-    printf 'listing of %s: status %s, and instead of\n%s\nit wrote\n%s\n' "$2" "$1" "$(first_lines wanted)" \
+    printf 'listing of %s: status %s, and instead of %s\nit wrote %s\n' "$2" "$1" "$(first_lines wanted)" \
         "$(first_lines wrote)"
 }
 
-first_lines() { head -n 5 "$room/$1" | tr -d '\0'; } # FILE
+first_lines() { # FILE
+    printf '%s bytes\n' "$(wc -c <"$room/$1")"
+    head -n 5 "$room/$1" | tr -d '\0'
+}
 
 # Standard error is not the program's to write to.
 said() { sed '1s/^/, said /;q' "$room/said"; }
@@ -126,6 +129,7 @@ wait_for() { # PATTERN
 
 # How the image is handed over, and how the output is taken.
 at_once() { cat "$room/image"; }
+# The cut is odd or small, so that a program that asks for so many bytes as a power of two ends a read short there.
 in_pieces() { # CUT PATTERN
     head -c "$1" "$room/image"
     wait_for "$2"
@@ -141,7 +145,7 @@ late() { # PATTERN
     cat
 }
 
-# PATTERN is what the witness of listing_io.c must have, so that a run that met nothing of its kind does not pass.
+# PATTERN is what the witness of io.c must have, so that a run that met nothing of its kind does not pass.
 lists_piped() { # WANTED FEED TAKE PATTERN NAME=VALUE WORDS-OF-MAKE_IMAGE...
     local feed take ended
     printf '%s' "$1" >"$room/wanted"
@@ -161,8 +165,8 @@ lists_piped() { # WANTED FEED TAKE PATTERN NAME=VALUE WORDS-OF-MAKE_IMAGE...
 }
 
 lists_piped "$example_e" "in_pieces 50 r" cat r IO_MOST=0 64 b3 f
-lists_piped $'objects 1 free 16\n0 block 65500\n' "in_pieces 40000 r" cat r IO_MOST=0 65536 b65500
-lists_piped $'refused 7\n' "in_pieces 65536 r" cat r IO_MOST=0 65537
+lists_piped $'objects 1 free 16\n0 block 65500\n' "in_pieces 40001 r" cat r IO_MOST=0 65536 b65500
+lists_piped $'refused 7\n' "in_pieces 65535 r" cat r IO_MOST=0 65537
 lists_piped "$example_e" at_once cat 'r.*w' IO_MOST=1 64 b3 f
 lists_piped $'refused 6\n' at_once cat 'r.*w' IO_MOST=1 64 b45
 lists_piped $'objects 1 free 16\n0 block 65500\n' at_once cat 'r.*w' IO_MOST=13 65536 b65500

@@ -1,8 +1,8 @@
 #!/usr/bin/env bash
-# listing_faults.sh: shows that tests/listing.sh can fail: a listing program without a slip passes it, and each that
-# tests/listing_slips.c makes with one is found.
+# faults.sh: shows that tests/listing.sh can fail: a listing program without a slip passes it, and each that slips.c
+# makes with one is found.
 set -u
-cd "$(dirname "$0")/.." || exit 2
+cd "$(dirname "$0")/../.." || exit 2
 . tests/host.sh
 
 # In the order of the slips' numbers.
@@ -30,7 +30,7 @@ room=$(mktemp -d) || exit 2
 trap 'rm -rf "$room"' EXIT
 failed=0
 for slip in "${!slips[@]}"; do
-    "$compiler" "${flags[@]}" -DSLIP="$slip" -o "$room/listing" tests/listing_slips.c || exit 2
+    "$compiler" "${flags[@]}" -DSLIP="$slip" -o "$room/listing" tests/listing/slips.c || exit 2
     said=$(tests/listing.sh "$room/listing" "${runner[*]}")
     status=$?
     # The last line is the verdict, and the first tells which run failed first.
