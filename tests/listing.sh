@@ -174,5 +174,11 @@ lists_piped $'refused 7\n' at_once cat 'r.*w' IO_MOST=9 65537
 lists_piped "$full_of_filemarks" at_once cat 'r.*w' IO_MOST=61 65536 f16380
 lists_piped "$full_of_filemarks" at_once slowly r IO_MOST=0 65536 f16380
 
+# Interrupted before anything came, between two pieces, and while nobody took the output.
+lists_piped "$example_e" "after R" cat R IO_TIMER=10 64 b3 f
+lists_piped "$example_e" "in_pieces 50 rR" cat rR IO_TIMER=10 64 b3 f
+lists_piped $'refused 7\n' "in_pieces 65535 rR" cat rR IO_TIMER=10 65537
+lists_piped "$full_of_filemarks" at_once "late wW" wW IO_TIMER=10 65536 f16380
+
 echo "$passed passed, $failed failed"
 [ "$failed" -eq 0 ]

@@ -24,6 +24,9 @@ slips=(
     "a short write starts again from the first byte"
     "the output is cut at 65,536 bytes"
     "the exit status is 1"
+    "an interrupted read is taken for the end"
+    "an interrupted write is taken for the end"
+    "an interrupted read forgets what came before it"
 )
 
 room=$(mktemp -d) || exit 2

@@ -6,6 +6,9 @@
  *   IO_WITNESS  a file that gets a letter for each such ending: r and w for a short one, R and W for an interrupted one
  *
  * The witness tells that the program did meet what the run is for: it would not if it made its calls in another way.
+ * The program has no handler of its own, and without one no signal interrupts a call: a handler comes with what is
+ * loaded first, as here. That a call may fail otherwise (a full disk, a descriptor that does not wait) is not shown: 01
+ * says nothing of it.
  */
 #define _DEFAULT_SOURCE
 #include <errno.h>
