@@ -228,17 +228,17 @@ static inline void hold_to(const struct call *call, int empty_is_null, const cha
     }
 }
 
-/* A partition whose bytes stay gets no store: both lie on pages that cannot be written, unless they are changed. */
+/* A slice whose bytes stay gets no store, be it a partition, a buffer or the record of a refused call: each lies on
+ * pages that cannot be written, unless it is changed. */
 static inline void hold_read_only(const struct call *call, const char *what)
 {
     uint8_t *lent[SPANS];
     for (int span = 0; span < SPANS; span++) {
         size_t length = call->length[span];
-        int is_partition = span == PARTITION_0 || span == PARTITION_1;
         int stays = length > 0 && memcmp(call->before[span], call->after[span], length) == 0;
-        lent[span] = is_partition && stays ? sealed(call->before[span], length) : call->before[span];
+        lent[span] = stays ? sealed(call->before[span], length) : call->before[span];
     }
-    expect_in_child(answer_of(lent, call->length) == call->answer, "on read-only partitions, %s", what);
+    expect_in_child(answer_of(lent, call->length) == call->answer, "on read-only pages, %s", what);
 }
 
 /* A partition that is changed must be sound again, or the case itself is wrong. */

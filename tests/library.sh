@@ -16,12 +16,15 @@ build_test() { # SOURCE SUFFIX FLAG...
     echo "$program"
 }
 
-# Seeds each of the slips in turn; number 0 is none. Without a slip nothing may differ; with one, something must.
+# Seeds each of the slips in turn; number 0 is none. Without a slip nothing may differ; with one, something must. What
+# stands before a colon in a slip is one word more for the program.
 run_with_slips() { # SOURCE CALLS SLIP...
-    local source=$1 calls=$2 slips=("${@:3}") failed=0 fault program said status first differ found
+    local source=$1 calls=$2 slips=("${@:3}") failed=0 fault program said status first differ found word
     for fault in "${!slips[@]}"; do
         program=$(build_test "$source" "fault-$fault" -DFAULT="$fault") || exit 2
-        said=$("${runner[@]}" "$program" 1 "$calls")
+        word=()
+        [[ ${slips[fault]} != *:* ]] || word=("${slips[fault]%%:*}")
+        said=$("${runner[@]}" "$program" 1 "$calls" "${word[@]}")
         status=$?
         first=$(grep -om 1 'call [0-9]*, ' <<<"$said")
         differ=-1
@@ -40,8 +43,8 @@ run_with_slips() { # SOURCE CALLS SLIP...
 }
 
 # Goes on for as many calls as it is told, and ends the script with the test's status.
-run_for_long() { # SOURCE CALLS SEED
+run_for_long() { # SOURCE CALLS SEED WORD...
     local program
     program=$(build_test "$1" long) || exit 2
-    exec "${runner[@]}" "$program" "$3" "$2"
+    exec "${runner[@]}" "$program" "$3" "$2" "${@:4}"
 }

@@ -1,7 +1,8 @@
-/* differential.c SEED CALLS: the library held to the model of document 01, call by call, on seeded random work. */
+/* differential.c SEED CALLS [largest]: the library held to the model of document 01, call by call, on seeded random
+ * work. With the largest, bytes carried and zeroed come near 2^30, which takes 3 GiB of memory. */
 #define _DEFAULT_SOURCE
 #include "report.h"
-#include "work.h"
+#include "vast.h"
 
 /* ---- sequences from a blank cartridge */
 
@@ -23,13 +24,6 @@ static size_t likely_image_length(void)
     if (kind < 198)
         return 4000 + draw(20000);
     return 66000 + draw(240000);
-}
-
-static void run_calls(unsigned calls)
-{
-    uint64_t answer = 0;
-    while (calls-- > 0)
-        answer = likely_call(answer);
 }
 
 static void run_sequence(void)
@@ -237,28 +231,14 @@ static void run_many_objects(void)
 
 /* ---- more bytes lent than 32 bits count */
 
-static const size_t wide = (size_t)BEYOND_32_BITS + 0x100000;
-
-static struct twin wide_twin(int access)
-{
-    struct twin twin = {.room_length = wide};
-    for (int side = MODEL; side <= LIBRARY; side++) {
-        void *room = mmap(NULL, wide, access, MAP_PRIVATE | MAP_ANONYMOUS | MAP_NORESERVE, -1, 0);
-        if (room == MAP_FAILED)
-            abort();
-        twin.room[side] = room;
-    }
-    return twin;
-}
-
 /* READ and WRITE of 2^32 bytes and a little more, lent in full or a byte short; only touched pages take memory. */
 static void run_wide(void)
 {
     static struct twin wide_sent, wide_received;
     struct twin sent = twins[SENT], received = twins[RECEIVED];
     if (wide_sent.room_length == 0) {
-        wide_sent = wide_twin(PROT_READ);
-        wide_received = wide_twin(PROT_READ | PROT_WRITE);
+        wide_sent = sparse_twin(beyond_32_bits);
+        wide_received = sparse_twin(beyond_32_bits);
     }
     for (int calls = 0; calls < 12; calls++) {
         uint32_t block_length = one_in(2) ? LARGEST_BLOCK : 257 + draw(2000);
@@ -289,8 +269,8 @@ static void run_wide(void)
 
 int main(int arguments, char **argument)
 {
-    if (arguments != 3) {
-        printf("differential SEED CALLS\n");
+    if (arguments < 3 || arguments > 4 || (arguments == 4 && strcmp(argument[3], "largest") != 0)) {
+        printf("differential SEED CALLS [largest]\n");
         return 2;
     }
     seed = strtoull(argument[1], NULL, 10);
@@ -298,6 +278,7 @@ int main(int arguments, char **argument)
     random_state = seed;
     map_twins();
     catch_faults();
+    reached.with_largest = arguments == 4;
     for (unsigned round = 0; !is_over(); round++) {
         for (int sequences = 0; sequences < 8; sequences++)
             run_sequence();
@@ -308,6 +289,9 @@ int main(int arguments, char **argument)
             run_many_objects();
         if (round % 64 == 0)
             run_wide();
+        /* Once, and not first: a slip that any cartridge shows is found without it. */
+        if (round == 1)
+            run_vast(reached.with_largest);
     }
     return report();
 }

@@ -10,6 +10,37 @@
 #define FAULT 0
 #endif
 
+/* The slips that cut a number: to the low bits of it, or to 2 to this power at most. */
+static inline uint64_t cut(uint64_t number, int fault, unsigned bits)
+{
+    return FAULT == fault ? number & ((UINT64_C(1) << bits) - 1) : number;
+}
+
+static inline uint64_t capped(uint64_t number, int fault, unsigned bits)
+{
+    return FAULT == fault && number > UINT64_C(1) << bits ? UINT64_C(1) << bits : number;
+}
+
+/* ---- bytes */
+
+/* Lays bytes, and stores only where some differ, so that what is sparse stays so. */
+static inline void lay_over(uint8_t *to, const uint8_t *from, uint64_t bytes)
+{
+    enum { STEP = 4096 };
+    for (uint64_t done = 0; done < bytes; done += STEP) {
+        size_t some = (size_t)(bytes - done < STEP ? bytes - done : STEP);
+        if (memcmp(to + done, from + done, some) != 0)
+            memcpy(to + done, from + done, some);
+    }
+}
+
+static inline void lay_zeros(uint8_t *to, uint64_t bytes)
+{
+    static const uint8_t zeros[65536];
+    for (uint64_t done = 0; done < bytes; done += sizeof zeros)
+        lay_over(to + done, zeros, bytes - done < sizeof zeros ? bytes - done : sizeof zeros);
+}
+
 /* ---- an image, decoded */
 
 struct object {
@@ -29,7 +60,7 @@ static inline void make_room_for(struct tape *tape, uint64_t objects)
 {
     if (objects <= tape->capacity)
         return;
-    tape->capacity = (size_t)objects + 1024;
+    tape->capacity = (size_t)(objects + objects / 2 + 1024);
     tape->objects = realloc(tape->objects, tape->capacity * sizeof *tape->objects);
     if (tape->objects == NULL)
         abort();
@@ -75,7 +106,7 @@ static inline int decode(struct tape *tape, const uint8_t *image, uint64_t lengt
     }
     if (end > directory)
         return 0;
-    tape->count = count;
+    tape->count = cut(cut(count, 11, 20), 12, 24);
     tape->is_protected = flags == FLAG_PROTECTED;
     return 1;
 }
@@ -93,9 +124,10 @@ static inline uint64_t room_at(const struct tape *tape, uint64_t n)
 
 static inline int in_zone(const struct tape *tape, uint64_t n)
 {
+    uint64_t share = cut(room_at(tape, n) * ZONE_SHARE, 24, 32);
     if (FAULT == 4)
-        return room_at(tape, n) * ZONE_SHARE <= tape->length - TRAILER;
-    return room_at(tape, n) * ZONE_SHARE < tape->length - TRAILER;
+        return share <= tape->length - TRAILER;
+    return share < tape->length - TRAILER;
 }
 
 /* Lays N, and D, which follows from it. */

@@ -24,7 +24,7 @@ static inline const struct object *next_block(struct session *s, int64_t residue
 
 static inline void carry(struct session *s, const struct object *block, uint64_t bytes)
 {
-    memcpy(s->received + s->carried, s->image[s->current] + block->start, bytes);
+    lay_over(s->received + s->carried, s->image[s->current] + block->start, bytes);
     s->carried += bytes;
 }
 
@@ -69,8 +69,7 @@ static inline int put(struct session *s, int is_filemark, const uint8_t *data, u
     uint32_t start = (uint32_t)end_before(tape, s->position), end = (uint32_t)(start + bytes);
     if (room_at(tape, s->position) < ENTRY + bytes)
         return 0;
-    if (bytes > 0)
-        memcpy(image + start, data, bytes);
+    lay_over(image + start, data, bytes);
     put32(image + entry_at(tape->length, s->position), is_filemark ? ENTRY_FILEMARK | end : end);
     make_room_for(tape, s->position + 1);
     tape->objects[s->position] = (struct object){start, end, is_filemark};
@@ -102,7 +101,7 @@ static inline void write_blocks(struct session *s)
 {
     uint32_t count = count_of(s->block);
     if (is_fixed(s->block))
-        put_all(s, count, s->block_length, 1);
+        put_all(s, fixed_count_of(s->block), s->block_length, 1);
     else if (count > 0)
         put_all(s, 1, count, count);
 }
@@ -163,7 +162,7 @@ static inline void erase(struct session *s)
         to = tape->length - TRAILER - ENTRY * tape->count;
     lay_count(image, tape->length, s->position);
     if (s->block[1] & LONG && to > from)
-        memset(image + from, 0, to - from);
+        lay_zeros(image + from, capped(capped(capped(to - from, 22, 24), 23, 28), 32, 29));
 }
 
 static inline void load_unload(struct session *s)
@@ -194,7 +193,7 @@ static inline void read_position(struct session *s)
             filemarks += (uint32_t)tape->objects[i].is_filemark;
         put32(data + LONG_PARTITION, s->current);
         put32(data + LONG_POSITION, (uint32_t)s->position);
-        put32(data + LONG_FILEMARKS, filemarks);
+        put32(data + LONG_FILEMARKS, (uint32_t)cut(filemarks, 15, 16));
     } else {
         data[SHORT_PARTITION] = s->current;
         put32(data + SHORT_FIRST, (uint32_t)s->position);
@@ -259,7 +258,7 @@ static inline void act(struct session *s, const uint8_t *kept)
     case READ_BLOCK_LIMITS: hand_over(s, limits); break;
     case READ:
         if (is_fixed(s->block))
-            read_fixed(s, count_of(s->block));
+            read_fixed(s, (int64_t)fixed_count_of(s->block));
         else
             read_variable(s, count_of(s->block));
         break;
@@ -295,7 +294,7 @@ static inline void take_fields(struct session *s, const uint8_t *record)
     s->partitions = record[STORMTOGGLE_RECORD_PARTITIONS];
     s->current = record[STORMTOGGLE_RECORD_CURRENT];
     s->attention = record[STORMTOGGLE_RECORD_ATTENTION];
-    s->position = get32(record + STORMTOGGLE_RECORD_POSITION);
+    s->position = cut(cut(get32(record + STORMTOGGLE_RECORD_POSITION), 13, 16), 14, 17);
     s->block_length = get32(record + STORMTOGGLE_RECORD_BLOCK_LENGTH);
     memcpy(s->sense, nothing_told, SENSE_BYTES);
     s->check_condition = 0;
@@ -320,6 +319,7 @@ static inline uint64_t model_command(uint8_t *record, size_t record_length, cons
     static struct session session;
     struct session *s = &session;
     const uint64_t lengths[2] = {p0_length, p1_length};
+    block_length = (size_t)cut(cut(cut(block_length, 18, 8), 19, 16), 30, 32);
     if (block_length == 0 || block_length < block_bytes(block[0]))
         return refused(BY_COMMAND);
     if (!record_is_well_formed(record, record_length))
@@ -340,7 +340,7 @@ static inline uint64_t model_command(uint8_t *record, size_t record_length, cons
         act(s, record + STORMTOGGLE_RECORD_SENSE);
     }
     lay_fields(s, record);
-    return answered(s->check_condition, s->carried);
+    return answered(s->check_condition, cut(cut(cut(s->carried, 20, 24), 21, 28), 31, 29));
 }
 
 #endif

@@ -68,6 +68,11 @@ static inline int is_fixed(const uint8_t *block)
     return block[1] & FIXED;
 }
 
+static inline uint64_t fixed_count_of(const uint8_t *block)
+{
+    return cut(cut(count_of(block), 16, 16), 17, 17);
+}
+
 static inline uint64_t smaller(uint64_t a, uint64_t b)
 {
     return a < b ? a : b;
@@ -117,7 +122,7 @@ static inline int fields_are_wrong(const struct session *s, const struct served 
 
 static inline uint64_t transfer_bytes(const struct session *s)
 {
-    return is_fixed(s->block) ? count_of(s->block) * s->block_length : count_of(s->block);
+    return is_fixed(s->block) ? fixed_count_of(s->block) * s->block_length : count_of(s->block);
 }
 
 static inline uint64_t bytes_to_take(const struct session *s)

@@ -12,6 +12,14 @@ static inline unsigned long shown(unsigned long count)
     return count;
 }
 
+static inline unsigned long times_above(enum width width, unsigned power)
+{
+    unsigned long times = 0;
+    for (unsigned bits = power + 1; bits < WIDEST; bits++)
+        times += reached.widths[width][bits];
+    return times;
+}
+
 static inline void report_services(void)
 {
     /* The refusals that each service has; 0 is the call done. */
@@ -39,11 +47,11 @@ static inline void report_commands(void)
     for (int code = 0; code < 256; code++)
         if (served_as((uint8_t)code) == NULL)
             others += reached.check[code] + reached.refused[code];
-    printf("%-18s %9s %9s %9s\n", "command", "good", "check", "refused");
+    printf("%-18s %9s %9s %9s %9s\n", "command", "good", "check", "refused", "read-only");
     for (size_t i = 0; i < COUNT(all_served); i++) {
         uint8_t code = all_served[i].code;
-        printf("%-18s %9lu %9lu %9lu\n", all_served[i].name, shown(reached.good[code]), shown(reached.check[code]),
-               shown(reached.refused[code]));
+        printf("%-18s %9lu %9lu %9lu %9lu\n", all_served[i].name, shown(reached.good[code]),
+               shown(reached.check[code]), shown(reached.refused[code]), shown(reached.read_only[code]));
     }
     printf("codes not served %lu; codes run bit by bit %lu\n", shown(others), reached.codes_run);
     never_reached += reached.codes_run < 256;
@@ -63,19 +71,54 @@ static inline void report_senses(void)
     printf("\n");
 }
 
+/* The powers of two above which each number has been; those behind the bar only where the largest work is asked for. */
+static inline void report_widths(void)
+{
+    static const struct {
+        const char *name;
+        uint8_t powers[5], largest;
+    } widths[WIDTHS] = {
+        [WIDE_N] = {"N", {16, 17, 20, 24}, 0},
+        [WIDE_POSITION] = {"the position", {16, 17, 20, 24}, 0},
+        [WIDE_FILEMARKS] = {"filemarks before it", {16, 17, 20, 24}, 0},
+        [WIDE_FIXED] = {"a count of FIXED", {16, 17}, 0},
+        [WIDE_BLOCK] = {"a command block's length", {8, 16, 17, 24, 32}, 0},
+        [WIDE_CARRIED] = {"bytes carried", {16, 24, 28}, 29},
+        [WIDE_ZEROED] = {"bytes zeroed by LONG", {16, 24, 28}, 29},
+        [WIDE_ROOM] = {"room x 16", {16, 24, 32, 33}, 0},
+        [WIDE_START] = {"the start of a view", {16, 24, 28, 29}, 0},
+    };
+    for (int i = 0; i < WIDTHS; i++) {
+        printf("%s above", widths[i].name);
+        for (int j = 0; j < 5 && widths[i].powers[j] > 0; j++)
+            printf(" 2^%d %lu", widths[i].powers[j], shown(times_above((enum width)i, widths[i].powers[j])));
+        if (reached.with_largest && widths[i].largest > 0)
+            printf(" | 2^%d %lu", widths[i].largest, shown(times_above((enum width)i, widths[i].largest)));
+        printf("\n");
+    }
+}
+
+static inline void report_read_only(void)
+{
+    printf("read-only: a WRITE that puts nothing %lu, the partition beside %lu, a buffer that receives nothing %lu, "
+           "the record of a refused call %lu\n",
+           shown(reached.puts_nothing), shown(reached.beside), shown(reached.receives_nothing),
+           shown(reached.refused_records));
+}
+
 /* The exit status: 0 only without a mismatch, and if the run was long enough to reach everything. */
 static inline int report(void)
 {
     report_services();
     report_commands();
     report_senses();
-    printf("on read-only pages %lu, empty slices as NULL %lu, blocks above 256 bytes %lu\n", shown(reached.read_only),
-           shown(reached.null_slices), shown(reached.long_blocks));
-    printf("N above 65,536 %lu, above 100,000 %lu, 2^32 bytes and more asked %lu, and lent %lu, 65,536 put %lu\n",
-           shown(reached.many_objects), shown(reached.most_objects), shown(reached.wide_products),
-           shown(reached.wide_done), shown(reached.largest_blocks));
-    printf("seed %" PRIu64 ", %lu calls, %lu mismatches, %u kinds never reached\n", seed, reached.calls,
-           reached.mismatches, never_reached);
+    report_widths();
+    report_read_only();
+    printf("empty slices as NULL %lu, 2^32 bytes and more asked %lu, and lent %lu, 65,536 put %lu\n",
+           shown(reached.null_slices), shown(reached.wide_products), shown(reached.wide_done),
+           shown(reached.largest_blocks));
+    print_totals();
+    printf(", %u kinds never reached\n", never_reached);
     return reached.mismatches > 0 || never_reached > 0;
 }
 

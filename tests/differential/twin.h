@@ -1,109 +1,20 @@
-/* twin.h: every lent slice twice, for the model and for the library, and the call that holds one to the other. */
+/* twin.h: one call on both sides, the model's and the library's, and all that it leaves compared. */
 #ifndef TWIN_H
 #define TWIN_H
 
-#include "../draw.h"
-#include "model_commands.h"
+#include "reached.h"
 #include "stormtoggle.h"
 #include <signal.h>
-#include <sys/mman.h>
-
-/* ---- the slices */
-
-enum side { MODEL, LIBRARY };
-enum slice { RECORD, COMMAND, P0, P1, SENT, RECEIVED, SLICES };
-static const char *const slice_names[SLICES] = {"record", "command", "partition 0", "partition 1", "sent", "received"};
-
-/* Both sides hold the same bytes between calls, also around the slice, so that whatever differs after one is a store
- * that only one side made. Pages that cannot be touched lie on either side of the room. */
-enum { MARGIN = 32, PAGE_BYTES = 4096, LARGE_ROOM = 128 * PAGE_BYTES };
-static struct twin {
-    uint8_t *room[2];
-    size_t room_length, at, length;
-} twins[SLICES];
-
-static uint8_t noise[LARGE_ROOM];
-
-static inline uint8_t *guarded_pages(size_t length)
-{
-    uint8_t *pages = mmap(NULL, length + 2 * PAGE_BYTES, PROT_NONE, MAP_PRIVATE | MAP_ANONYMOUS, -1, 0);
-    if (pages == MAP_FAILED || mprotect(pages + PAGE_BYTES, length, PROT_READ | PROT_WRITE) != 0)
-        abort();
-    return pages + PAGE_BYTES;
-}
-
-static inline void map_twins(void)
-{
-    for (size_t i = 0; i < sizeof noise; i++)
-        noise[i] = (uint8_t)draw(256);
-    for (int slice = 0; slice < SLICES; slice++) {
-        struct twin *twin = &twins[slice];
-        twin->room_length = slice == RECORD || slice == COMMAND ? PAGE_BYTES : LARGE_ROOM;
-        for (int side = MODEL; side <= LIBRARY; side++) {
-            twin->room[side] = guarded_pages(twin->room_length);
-            memcpy(twin->room[side], noise, twin->room_length);
-        }
-    }
-}
-
-static inline uint8_t *bytes_of(enum slice slice, enum side side)
-{
-    return twins[slice].room[side] + twins[slice].at;
-}
-
-/* Against the last page, where one byte too many is a fault, against the first, or with margins. */
-static inline void place(enum slice slice, size_t length)
-{
-    struct twin *twin = &twins[slice];
-    size_t spare;
-    if (length > twin->room_length)
-        length = twin->room_length;
-    spare = twin->room_length - length;
-    twin->length = length;
-    twin->at = one_in(3) ? spare : one_in(3) ? 0 : draw(spare + 1);
-}
-
-static inline void lay(enum slice slice, size_t offset, const uint8_t *bytes, size_t length)
-{
-    memcpy(bytes_of(slice, MODEL) + offset, bytes, length);
-    memcpy(bytes_of(slice, LIBRARY) + offset, bytes, length);
-}
-
-static inline void lay_noise(enum slice slice)
-{
-    size_t length = twins[slice].length;
-    lay(slice, 0, noise + draw(LARGE_ROOM - length + 1), length);
-}
-
-/* ---- a call */
-
-enum service { FRESH, BLANK, MOUNT, PROTECT, VIEW, A_COMMAND, SERVICES };
-static const char *const service_names[] = {"fresh", "blank", "mount", "protect", "view", "command"};
-
-struct call {
-    enum service service;
-    enum slice image;  /* of blank and protect */
-    uint64_t number_1; /* on, or the view's partition */
-    uint64_t number_2; /* the view's object */
-    int empty_is_null;
-};
-
-/* How often each thing was reached, by the model's answers. */
-static struct {
-    unsigned long calls, wanted, mismatches, services[SERVICES], refusals[SERVICES][BY_MOST + 1];
-    unsigned long good[256], check[256], refused[256]; /* by operation code */
-    unsigned long sense[16][256][256];                 /* by key, ASC and ASCQ */
-    unsigned long views_found, read_only, null_slices, long_blocks, many_objects, most_objects;
-    unsigned long wide_products, wide_done, largest_blocks, codes_run;
-} reached;
 
 /* Enough to see what is wrong; more would only repeat it. */
-enum { MISMATCHES_SHOWN = 20 };
+enum { MISMATCHES_SHOWN = FAULT == 0 ? 20 : 1 };
 
 static inline int is_over(void)
 {
     return reached.calls >= reached.wanted || reached.mismatches >= MISMATCHES_SHOWN;
 }
+
+/* ---- a call */
 
 static inline uint64_t invoke(enum side side, const struct call *call)
 {
@@ -132,9 +43,7 @@ static inline uint64_t invoke(enum side side, const struct call *call)
 
 /* ---- what is said of a call that fails */
 
-static const char *running = "neither";
-static struct call latest;
-static uint8_t record_before[64];
+static enum { IN_MODEL = MODEL, IN_LIBRARY = LIBRARY, IN_NEITHER } running = IN_NEITHER;
 
 static inline void name_the_call(void)
 {
@@ -151,11 +60,37 @@ static inline void name_the_call(void)
     printf(": ");
 }
 
-/* Not safe in a handler in general; here nothing that is interrupted prints. */
-static inline void on_fault(int signal_number)
+/* The line that a run ends with, but for its end. */
+static inline void print_totals(void)
 {
+    printf("seed %" PRIu64 ", %lu calls, %lu mismatches", seed, reached.calls, reached.mismatches);
+}
+
+/* Whether the fault is a first store to a piece of a sparse room, by the side whose room it is. */
+static inline int may_store(const uint8_t *address)
+{
+    enum side side;
+    struct twin *twin = room_with(address, &side);
+    if (twin == NULL || (running != IN_NEITHER && (int)running != (int)side))
+        return 0;
+    return !(running == IN_LIBRARY && sealed[twin - twins]) && open_piece(twin, side, address);
+}
+
+/* Not safe in a handler in general; here nothing that is interrupted prints. */
+static inline void on_fault(int signal_number, siginfo_t *fault, void *context)
+{
+    static const char *const names[] = {"model", "library", "work between the calls"};
+    (void)context;
+    if (signal_number == SIGSEGV && may_store(fault->si_addr))
+        return;
     name_the_call();
-    printf("signal %d in the %s\n", signal_number, running);
+    printf("signal %d in the %s\n", signal_number, names[running]);
+    for (int i = 0; i < SLICES; i++)
+        if (sealed[i])
+            printf("%s is lent on read-only pages\n", slice_names[i]);
+    reached.mismatches++;
+    print_totals();
+    printf(", cut short by the last\n");
     fflush(stdout);
     _exit(1);
 }
@@ -164,46 +99,63 @@ static inline void catch_faults(void)
 {
     struct sigaction action;
     memset(&action, 0, sizeof action);
-    action.sa_handler = on_fault;
+    action.sa_sigaction = on_fault;
+    action.sa_flags = SA_SIGINFO;
     sigaction(SIGSEGV, &action, NULL);
     sigaction(SIGBUS, &action, NULL);
     sigaction(SIGILL, &action, NULL);
     sigaction(SIGABRT, &action, NULL);
 }
 
-/* Compares a slice and what lies around it. The library's side then takes the model's bytes, so that one mismatch is
- * counted once. */
+/* ---- the comparison */
+
+/* The first byte of a room's part that differs, or its end. */
+static inline size_t difference_in(const struct twin *twin, size_t from, size_t to)
+{
+    const uint8_t *model = twin->room[MODEL], *library = twin->room[LIBRARY];
+    if (memcmp(model + from, library + from, to - from) == 0)
+        return to;
+    while (model[from] == library[from])
+        from++;
+    return from;
+}
+
+/* Of a sparse room all that either side has stored to, of another the slice and what lies around it. */
+static inline size_t first_difference(const struct twin *twin)
+{
+    size_t from = twin->at < MARGIN ? 0 : twin->at - MARGIN, to = twin->at + twin->length + MARGIN, at;
+    if (!is_sparse(twin)) {
+        to = smaller(to, twin->room_length);
+        at = difference_in(twin, from, to);
+        return at < to ? at : twin->room_length;
+    }
+    for (size_t piece = 0; piece < pieces_of(twin); piece++)
+        if (twin->open[MODEL][piece] || twin->open[LIBRARY][piece]) {
+            to = (piece + 1) * PIECE;
+            at = difference_in(twin, piece * PIECE, to);
+            if (at < to)
+                return at;
+        }
+    return twin->room_length;
+}
+
+/* The library's side then takes the model's bytes, so that one mismatch is counted once. Not in a sparse room, of which
+ * there is too much: a run that differs there shows what follows from it too. */
 static inline int slice_differs(enum slice slice)
 {
     const struct twin *twin = &twins[slice];
-    size_t from = twin->at < MARGIN ? 0 : twin->at - MARGIN, to = twin->at + twin->length + MARGIN, i;
-    const uint8_t *model = twin->room[MODEL], *library = twin->room[LIBRARY];
-    if (to > twin->room_length)
-        to = twin->room_length;
-    /* Of a slice beyond 32 bits, the part that the cartridges are large enough to reach. */
-    if (to - from > LARGE_ROOM)
-        to = from + LARGE_ROOM;
-    if (memcmp(model + from, library + from, to - from) == 0)
+    size_t at = first_difference(twin);
+    if (at == twin->room_length)
         return 0;
-    for (i = from; model[i] == library[i];)
-        i++;
     name_the_call();
-    printf("%s, byte %ld of %zu is %02xh, the model has %02xh\n", slice_names[slice], (long)i - (long)twin->at,
-           twin->length, library[i], model[i]);
-    memcpy(twin->room[LIBRARY] + from, model + from, to - from);
+    printf("%s, byte %lld of %zu is %02xh, the model has %02xh\n", slice_names[slice],
+           (long long)at - (long long)twin->at, twin->length, twin->room[LIBRARY][at], twin->room[MODEL][at]);
+    if (!is_sparse(twin))
+        memcpy(twin->room[LIBRARY], twin->room[MODEL], twin->room_length);
     return 1;
 }
 
 /* ---- read-only pages */
-
-/* Of the pages that hold the slice. */
-static inline void set_access(enum slice slice, int access)
-{
-    const struct twin *twin = &twins[slice];
-    size_t from = twin->at / PAGE_BYTES * PAGE_BYTES;
-    if (mprotect(twin->room[LIBRARY] + from, twin->at + twin->length - from, access) != 0)
-        abort();
-}
 
 /* Whether the call lays bytes on this partition, even if they stood there already: an object again, or zeros. */
 static inline int lays_bytes(enum slice slice, uint64_t answer)
@@ -219,81 +171,116 @@ static inline int lays_bytes(enum slice slice, uint64_t answer)
            get32(bytes_of(RECORD, MODEL) + STORMTOGGLE_RECORD_POSITION) != from;
 }
 
-/* Whether no store may go there: the constant slices, and a partition that the model left as it was. The library has
- * not been called yet, so its side still tells. */
+/* Whether the command has handed bytes over; those that a WRITE or a MODE SELECT carries go the other way. */
+static inline int is_received(uint64_t answer)
+{
+    const uint8_t *block = bytes_of(COMMAND, MODEL);
+    return latest.service == A_COMMAND && STORMTOGGLE_CARRIED(answer) > 0 && block[0] != WRITE &&
+           block[0] != MODE_SELECT;
+}
+
+/* Whether no store may go there: the constant slices, a partition that the model left as it was, a buffer to which
+ * nothing is carried, the record of a refused call. The library has not been called yet, so its side still tells. */
 static inline int is_left(enum slice slice, uint64_t answer)
 {
-    if (slice == P0 || slice == P1)
-        return !lays_bytes(slice, answer) &&
-               memcmp(bytes_of(slice, MODEL), bytes_of(slice, LIBRARY), twins[slice].length) == 0;
-    return slice == COMMAND || slice == SENT;
-}
-
-static inline void seal(int sealed[SLICES], uint64_t answer)
-{
-    for (int i = 0; i < SLICES; i++) {
-        sealed[i] = twins[i].length > 0 && twins[i].length <= LARGE_ROOM && is_left((enum slice)i, answer);
-        if (sealed[i])
-            set_access((enum slice)i, PROT_READ);
+    switch (slice) {
+    case RECORD: return latest.service == VIEW || STORMTOGGLE_REFUSAL(answer) != 0;
+    case P0: case P1: return !lays_bytes(slice, answer) && first_difference(&twins[slice]) == twins[slice].room_length;
+    case RECEIVED: return !is_received(answer);
+    default: return 1;
     }
 }
 
-static inline void unseal(const int sealed[SLICES])
+/* Of the pages that hold the slice; the pieces of a sparse room stay closed by themselves. */
+static inline void set_access(const struct twin *twin, int access)
 {
-    for (int i = 0; i < SLICES; i++)
-        if (sealed[i])
-            set_access((enum slice)i, PROT_READ | PROT_WRITE);
+    size_t from = twin->at / PAGE_BYTES * PAGE_BYTES;
+    if (!is_sparse(twin) && mprotect(twin->room[LIBRARY] + from, twin->at + twin->length - from, access) != 0)
+        abort();
 }
 
-/* ---- the comparison */
-
-static inline void count_reached(uint64_t answer)
+/* Seals for this call what it may not store to. */
+static inline void seal(uint64_t answer)
 {
-    unsigned refusal = latest.service == VIEW ? 0 : STORMTOGGLE_REFUSAL(answer);
-    const uint8_t *sense = bytes_of(RECORD, MODEL) + STORMTOGGLE_RECORD_SENSE;
-    uint8_t code;
-    reached.services[latest.service]++;
-    reached.refusals[latest.service][refusal]++;
-    reached.views_found += latest.service == VIEW && answer != 0;
-    for (int i = 0; i < SLICES; i++)
-        reached.null_slices += latest.empty_is_null && twins[i].length == 0;
+    for (int slice = 0; slice < SLICES; slice++) {
+        sealed[slice] = twins[slice].length > 0 && is_left((enum slice)slice, answer);
+        if (sealed[slice])
+            set_access(&twins[slice], PROT_READ);
+    }
+}
+
+static inline void unseal(void)
+{
+    for (int slice = 0; slice < SLICES; slice++)
+        if (sealed[slice]) {
+            sealed[slice] = 0;
+            set_access(&twins[slice], PROT_READ | PROT_WRITE);
+        }
+}
+
+static inline int any_is_sparse(void)
+{
+    int sparse = 0;
+    for (int slice = 0; slice < SLICES; slice++)
+        sparse |= is_sparse(&twins[slice]);
+    return sparse;
+}
+
+/* ---- slips of the library's side, so that faults.sh can show that a store where none may go is found */
+
+static inline void store_again(enum slice slice)
+{
+    volatile uint8_t *byte = bytes_of(slice, LIBRARY);
+    if (twins[slice].length > 0)
+        *byte = *byte;
+}
+
+static inline void slip_a_store(uint64_t answer)
+{
+    const uint8_t *block = bytes_of(COMMAND, MODEL);
+    int refused = STORMTOGGLE_REFUSAL(answer) != 0, loaded = record_before[STORMTOGGLE_RECORD_LOADED] == 1;
+    enum slice current = record_before[STORMTOGGLE_RECORD_CURRENT] == 0 ? P0 : P1;
     if (latest.service != A_COMMAND || twins[COMMAND].length == 0)
         return;
-    code = bytes_of(COMMAND, MODEL)[0];
-    reached.long_blocks += twins[COMMAND].length > 256;
-    if (refusal != 0) {
-        reached.refused[code]++;
-    } else if (STORMTOGGLE_STATUS(answer) != STORMTOGGLE_GOOD) {
-        reached.check[code]++;
-        reached.sense[sense[STORMTOGGLE_SENSE_KEY] & STORMTOGGLE_KEY][sense[STORMTOGGLE_SENSE_ASC]]
-                     [sense[STORMTOGGLE_SENSE_ASCQ]]++;
-    } else {
-        reached.good[code]++;
-    }
+    if (FAULT == 25 && !refused && loaded && block[0] == SPACE)
+        store_again(current);
+    if (FAULT == 26 && !refused && loaded && block[0] == WRITE && answer == answered(0, 0))
+        store_again(current);
+    if (FAULT == 27 && !refused && loaded && block[0] == WRITE)
+        store_again((enum slice)(P0 + P1 - current));
+    if (FAULT == 28 && !refused && block[0] == LOCATE)
+        store_again(RECEIVED);
+    if (FAULT == 29 && refused)
+        store_again(RECORD);
 }
+
+/* ---- the call on both sides */
 
 /* Makes the call on both sides, and compares all that a caller can see. Returns the model's answer. */
 static inline uint64_t make_call(struct call call)
 {
-    int sealed[SLICES] = {0}, differs;
     uint64_t by_model, by_library;
     size_t kept = twins[RECORD].length < sizeof record_before ? twins[RECORD].length : sizeof record_before;
+    int differs;
     if (is_over())
         return 0;
     reached.calls++;
     call.empty_is_null = (int)draw(2);
     latest = call;
     memcpy(record_before, bytes_of(RECORD, MODEL), kept);
-    running = "model";
+    close_rooms();
+    running = IN_MODEL;
     by_model = invoke(MODEL, &call);
-    if (one_in(8)) {
-        seal(sealed, by_model);
-        reached.read_only++;
-    }
-    running = "library";
+    running = IN_LIBRARY;
+    /* Among the many calls on small rooms one in eight, as it takes time; every one on sparse rooms. */
+    if (one_in(8) || any_is_sparse())
+        seal(by_model);
     by_library = invoke(LIBRARY, &call);
-    running = "neither";
-    unseal(sealed);
+    if (FAULT != 0)
+        slip_a_store(by_model);
+    running = IN_NEITHER;
+    count_reached(by_model);
+    unseal();
     differs = by_library != by_model;
     if (differs) {
         name_the_call();
@@ -302,7 +289,6 @@ static inline uint64_t make_call(struct call call)
     for (int i = 0; i < SLICES; i++)
         differs |= slice_differs((enum slice)i);
     reached.mismatches += (unsigned long)differs;
-    count_reached(by_model);
     return by_model;
 }
 

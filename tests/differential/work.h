@@ -229,9 +229,9 @@ static inline size_t likely_block_length(void)
 static inline void lend_block(size_t length)
 {
     place(COMMAND, length);
-    for (size_t i = 20; i < length; i++)
+    for (size_t i = 20; i < length && i < sizeof block; i++)
         block[i] = noise[i];
-    lay(COMMAND, 0, block, length);
+    lay(COMMAND, 0, block, smaller(length, sizeof block));
 }
 
 /* Mostly what is needed, more at times, and less. */
@@ -244,7 +244,7 @@ static inline size_t likely_room(uint64_t need)
         length = one_in(2) ? need - 1 : draw(need);
     else if (one_in(4))
         length = need + draw(40);
-    return (size_t)smaller(length, LARGE_ROOM);
+    return (size_t)length;
 }
 
 /* What is received shows against bytes that change from call to call. */
@@ -270,8 +270,6 @@ static inline void lend_buffers(void)
 static inline uint64_t call_command(void)
 {
     uint64_t answer = make_call((struct call){.service = A_COMMAND});
-    reached.many_objects += seen.tape.count > 65536;
-    reached.most_objects += seen.tape.count > 100000;
     reached.largest_blocks += block[0] == WRITE && STORMTOGGLE_CARRIED(answer) == LARGEST_BLOCK;
     return answer;
 }
@@ -337,6 +335,13 @@ static inline uint64_t likely_call(uint64_t answer_before)
     case 7: case 8: case 9: case 10: return call_view();
     default: return likely_command();
     }
+}
+
+static inline void run_calls(unsigned calls)
+{
+    uint64_t answer = 0;
+    while (calls-- > 0)
+        answer = likely_call(answer);
 }
 
 #endif

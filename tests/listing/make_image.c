@@ -5,7 +5,7 @@
  * OBJECT is bK, a block of K bytes 01 02 03 .., or f, a filemark, or fK, K of them. Other bytes are 0. FIELD is n,
  * flags, d or l, and overrides what the trailer would say. A length that holds no trailer gives that many zeros.
  */
-#include "image.h"
+#include "../image.h"
 
 struct laid {
     uint8_t *image;

@@ -1,0 +1,143 @@
+/* reached.h: what the calls have reached, counted by the model's answers. */
+#ifndef REACHED_H
+#define REACHED_H
+
+#include "rooms.h"
+
+enum service { FRESH, BLANK, MOUNT, PROTECT, VIEW, A_COMMAND, SERVICES };
+static const char *const service_names[] = {"fresh", "blank", "mount", "protect", "view", "command"};
+
+struct call {
+    enum service service;
+    enum slice image;  /* of blank and protect */
+    uint64_t number_1; /* on, or the view's partition */
+    uint64_t number_2; /* the view's object */
+    int empty_is_null;
+};
+
+static struct call latest;
+static uint8_t record_before[64];
+
+/* The slices that this call may not store to: the library has them on pages that cannot be written. */
+static int sealed[SLICES];
+
+/* Numbers whose width could be cut on the way: counted by how many bits hold one less, so that a number above 2^16 is
+ * one of more than 16 bits. */
+enum width {
+    WIDE_N, WIDE_POSITION, WIDE_FILEMARKS, WIDE_FIXED, WIDE_BLOCK, WIDE_CARRIED, WIDE_ZEROED, WIDE_ROOM, WIDE_START,
+    WIDTHS
+};
+enum { WIDEST = 65 };
+
+static struct {
+    unsigned long calls, wanted, mismatches, services[SERVICES], refusals[SERVICES][BY_MOST + 1];
+    unsigned long good[256], check[256], refused[256], read_only[256]; /* by operation code */
+    unsigned long sense[16][256][256];                                 /* by key, ASC and ASCQ */
+    unsigned long widths[WIDTHS][WIDEST];
+    unsigned long views_found, null_slices, puts_nothing, receives_nothing, refused_records, beside;
+    unsigned long wide_products, wide_done, largest_blocks, codes_run;
+    int with_largest;
+} reached;
+
+static inline void note_width(enum width width, uint64_t number)
+{
+    unsigned bits = 0;
+    for (uint64_t rest = number == 0 ? 0 : number - 1; rest > 0; rest >>= 1)
+        bits++;
+    reached.widths[width][bits]++;
+}
+
+/* ---- the drive and its cartridge after the call */
+
+static inline uint32_t told_in(const uint8_t *record)
+{
+    const uint8_t *sense = record + STORMTOGGLE_RECORD_SENSE;
+    return TOLD((uint32_t)sense[STORMTOGGLE_SENSE_KEY], sense[STORMTOGGLE_SENSE_ASC], sense[STORMTOGGLE_SENSE_ASCQ]);
+}
+
+static inline uint64_t end_in(enum slice slice, uint64_t n)
+{
+    const uint8_t *image = bytes_of(slice, MODEL);
+    return n == 0 ? 0 : get32(image + entry_at(twins[slice].length, n - 1)) & ENTRY_END;
+}
+
+static inline uint64_t room_in(enum slice slice, uint64_t n)
+{
+    return twins[slice].length - TRAILER - ENTRY * n - end_in(slice, n);
+}
+
+/* Of a command that found its cartridge and was not refused; carried is what the answer says. */
+static inline void count_cartridge(const uint8_t *block, uint64_t carried)
+{
+    const uint8_t *record = bytes_of(RECORD, MODEL);
+    enum slice current = record[STORMTOGGLE_RECORD_CURRENT] == 0 ? P0 : P1;
+    uint64_t position = get32(record + STORMTOGGLE_RECORD_POSITION), room = room_in(current, position);
+    note_width(WIDE_N, get32(bytes_of(current, MODEL) + twins[current].length - TRAILER_N));
+    note_width(WIDE_POSITION, get32(record_before + STORMTOGGLE_RECORD_POSITION));
+    if (block[0] == READ_POSITION && carried > 0)
+        note_width(WIDE_ROOM, room * ZONE_SHARE);
+    if (block[0] == READ_POSITION && carried == LONG_BYTES)
+        note_width(WIDE_FILEMARKS, get32(bytes_of(RECEIVED, MODEL) + LONG_FILEMARKS));
+    if (block[0] == READ || block[0] == WRITE) {
+        note_width(WIDE_CARRIED, carried);
+        if (is_fixed(block) && carried > 0)
+            note_width(WIDE_FIXED, count_of(block));
+    }
+    if (block[0] == ERASE && block[1] & LONG && told_in(record) == TOLD_GOOD)
+        note_width(WIDE_ZEROED, room);
+}
+
+/* ---- the call */
+
+static inline void count_sealed(const uint8_t *block, unsigned refusal)
+{
+    const uint8_t *record = bytes_of(RECORD, MODEL);
+    int current = record_before[STORMTOGGLE_RECORD_CURRENT] == 0 ? P0 : P1;
+    int writes = block[0] == WRITE || block[0] == WRITE_FILEMARKS;
+    reached.refused_records += refusal != 0 && sealed[RECORD];
+    reached.receives_nothing += refusal == 0 && sealed[RECEIVED];
+    if (refusal != 0 || record_before[STORMTOGGLE_RECORD_LOADED] == 0)
+        return;
+    reached.read_only[block[0]] += (unsigned long)sealed[current];
+    reached.beside += (unsigned long)sealed[P0 + P1 - current];
+    reached.puts_nothing +=
+        sealed[current] && writes && (told_in(record) == TOLD_GOOD || told_in(record) == TOLD_OVERFLOW);
+}
+
+static inline void count_command(unsigned refusal, uint64_t answer)
+{
+    const uint8_t *block = bytes_of(COMMAND, MODEL), *record = bytes_of(RECORD, MODEL);
+    uint32_t told;
+    count_sealed(block, refusal);
+    if (refusal != 0) {
+        reached.refused[block[0]]++;
+        return;
+    }
+    told = told_in(record);
+    note_width(WIDE_BLOCK, twins[COMMAND].length);
+    if (record[STORMTOGGLE_RECORD_LOADED])
+        count_cartridge(block, STORMTOGGLE_CARRIED(answer));
+    if (STORMTOGGLE_STATUS(answer) == STORMTOGGLE_GOOD) {
+        reached.good[block[0]]++;
+        return;
+    }
+    reached.check[block[0]]++;
+    reached.sense[TOLD_KEY(told)][TOLD_ASC(told)][TOLD_ASCQ(told)]++;
+}
+
+static inline void count_reached(uint64_t answer)
+{
+    unsigned refusal = latest.service == VIEW ? 0 : STORMTOGGLE_REFUSAL(answer);
+    reached.services[latest.service]++;
+    reached.refusals[latest.service][refusal]++;
+    if (latest.service == VIEW && answer != 0) {
+        reached.views_found++;
+        note_width(WIDE_START, STORMTOGGLE_VIEW_START(answer));
+    }
+    for (int i = 0; i < SLICES; i++)
+        reached.null_slices += latest.empty_is_null && twins[i].length == 0;
+    if (latest.service == A_COMMAND && twins[COMMAND].length > 0 && twins[RECORD].length > 0)
+        count_command(refusal, answer);
+}
+
+#endif
