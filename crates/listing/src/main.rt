@@ -1,5 +1,4 @@
 // Lists an image from standard input: what it holds, or why it is refused.
-mod streams;
 mod text;
 
 use libc::STDIN_FILENO;

@@ -6,8 +6,8 @@ use native.Mathlib.Omega.{arith}
 use lib.ListN.{length}
 use lib.Seq.{length-take-le}
 use borrow.Author.Needs.{needs}
-use Rattle.listing.proofs.streams.read_all.Statement.{statement}
-use Rattle.listing.proofs.streams.read_all.Tie as tie
+use Rattle.streams.proofs.read_all.Statement.{statement}
+use Rattle.streams.proofs.read_all.Tie as tie
 
 abbrev Inv-loop : tie.InvT-loop
 Inv-loop fd buf₀ done₀ failed₀ buf done failed = (done ≤ length buf₀) × (length buf ≡ length buf₀) × (failed ≤ 1000)

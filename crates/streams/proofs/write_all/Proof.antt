@@ -4,8 +4,8 @@ use Prim.Native.Nat.{_+_, _-_, _≤_}
 use native.Mathlib.Omega.{arith}
 use lib.ListN.{length}
 use borrow.Author.Needs.{needs}
-use Rattle.listing.proofs.streams.write_all.Statement.{statement}
-use Rattle.listing.proofs.streams.write_all.Tie as tie
+use Rattle.streams.proofs.write_all.Statement.{statement}
+use Rattle.streams.proofs.write_all.Tie as tie
 
 abbrev Inv-loop : tie.InvT-loop
 Inv-loop fd buf done₀ failed₀ done failed = (done ≤ length buf) × (failed ≤ 1000)
