@@ -1,5 +1,3 @@
 pub mod Positioned
 pub mod Replying
-pub mod Lists
-pub mod Spelt
 pub mod Selected

@@ -5,12 +5,9 @@ use native.Mathlib.Omega.{arith}
 use mathlib.Core.Path.{_≡_, refl, ap, _∙_}
 use mathlib.Core.Bool.{Bool, true, false}
 use mathlib.Core.List.{List, []}
-use borrow.Author.Tests.{eq-eqb, ne-eqb}
 use lib.ListN.{length, length-take}
 use Rattle.words.specs.Words.{bytes, over, limited}
-use Rattle.sense.specs.Sense.{attentionSense}
 use Rattle.record.specs.declared.drive.Drive.{Drive}
-use Rattle.record.specs.Record.{noAttention}
 use Rattle.codes.specs.declared.operation.Operation.the-variants.{RequestSense, ReadBlockLimits, ModeSense}
 use Rattle.codes.specs.Fields.{allocationOf, dbdOf}
 use Rattle.commands.specs.Parameters.{blockLimits, modeData}
@@ -18,13 +15,6 @@ use Rattle.deeds.specs.declared.deeds.Left.{Left}
 use Rattle.commands.specs.Act.{carrying, good, unattended, senseAsked, replyOf, act}
 use Rattle.commands.specs.Call.{nothing}
 use Rattle.deeds.specs.Left.{leftBy, protectedOnly}
-
-module _ (d : Drive) (b : List ℕ) where
-  pub kept-asked : d .attention ≡ noAttention → b ≡ d .sense → b ≡ senseAsked d
-  kept-asked h q = rw (eq-eqb (d .attention) noAttention h) q
-
-  pub attention-asked : (d .attention ≡ noAttention → ⊥) → b ≡ attentionSense (d .attention) → b ≡ senseAsked d
-  attention-asked h q = rw (ne-eqb (d .attention) noAttention h) q
 
 -- a reply of at most one byte's allocation has a length that 32 bits hold
 pub reply-small : (n k : ℕ) (b : List ℕ) → k ≡ length (limited n b) → n < 2 ^ 8 → k < 2 ^ 32

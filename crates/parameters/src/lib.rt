@@ -1,6 +1,4 @@
 // The commands that give or take parameter data: REQUEST SENSE, READ BLOCK LIMITS, MODE SENSE, MODE SELECT, READ POSITION.
-mod data;
-mod list;
 mod position;
 mod replies;
 mod selecting;

@@ -5,25 +5,15 @@ ghost use Prim.Native.Nat.{_≤_};
 ghost use lib.ListN.{length};
 ghost use Rattle.words.specs.Words.{over};
 ghost use Rattle.codes.specs.declared.operation.Operation.the-variants.{RequestSense, ReadBlockLimits, ModeSense};
-ghost use Rattle.commands.specs.Act.{senseAsked, replyOf, act};
+ghost use Rattle.commands.specs.Act.{replyOf, act};
 ghost use Rattle.commands.specs.Call.{nothing};
 ghost use Rattle.deeds.specs.Left.{leftBy, protectedOnly};
-use crate::data::block_limits;
-use crate::data::mode_data;
-use crate::data::mode_header;
 use deeds::Left;
+use payloads::block_limits;
+use payloads::mode_data;
+use payloads::mode_header;
+use payloads::sense_asked;
 use record::Drive;
-use sense::SENSE_LENGTH;
-
-// The sense that REQUEST SENSE answers: the waiting attention's, else the kept one.
-fn sense_asked(d: Drive) -> [u8; SENSE_LENGTH]
-    ensures { λ r. ⌜ r ≡ senseAsked d ⌝ }
-{
-    if d.attention == record::NO_ATTENTION {
-        return d.sense;
-    }
-    sense::of_attention(d.attention)
-}
 
 // REQUEST SENSE, with a receiving buffer that is long enough.
 pub fn request_sense(d: Drive, cmd: &[u8], received: &mut [u8]) -> Left

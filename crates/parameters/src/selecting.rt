@@ -7,9 +7,9 @@ ghost use Rattle.codes.specs.Fields.{allocationOf};
 ghost use Rattle.commands.specs.Parameters.{listLengthKnown};
 ghost use Rattle.commands.specs.Act.{selecting, withLength};
 ghost use Rattle.deeds.specs.Left.{leftBy};
-use crate::list::is_list_right;
-use crate::list::new_length;
 use deeds::Left;
+use payloads::is_list_right;
+use payloads::new_length;
 use record::Drive;
 
 // The drive with block length n.

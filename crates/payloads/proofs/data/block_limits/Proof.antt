@@ -1,9 +1,9 @@
 -- The six bytes computed are the definition's.
 -- Assumes nothing.
 use borrow.Author.Needs.{needs}
-use Rattle.parameters.proofs.Spelt.{limits}
-use Rattle.parameters.proofs.data.block_limits.Statement.{statement}
-use Rattle.parameters.proofs.data.block_limits.Tie as tie
+use Rattle.payloads.proofs.Spelt.{limits}
+use Rattle.payloads.proofs.data.block_limits.Statement.{statement}
+use Rattle.payloads.proofs.data.block_limits.Tie as tie
 
 cast-t4 : tie.Need-cast-t4
 cast-t4 c = search needs

@@ -1,9 +1,9 @@
 -- One law for each of the three returns.
 -- Assumes nothing.
 use borrow.Author.Needs.{needs}
-use Rattle.parameters.proofs.Lists.{list-header, list-whole, list-alone}
-use Rattle.parameters.proofs.list.is_list_right.Statement.{statement}
-use Rattle.parameters.proofs.list.is_list_right.Tie as tie
+use Rattle.payloads.proofs.Lists.{list-header, list-whole, list-alone}
+use Rattle.payloads.proofs.list.is_list_right.Statement.{statement}
+use Rattle.payloads.proofs.list.is_list_right.Tie as tie
 
 is-header-right-requires : tie.Need-is-header-right-requires
 is-header-right-requires c κs = search needs

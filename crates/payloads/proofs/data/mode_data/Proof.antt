@@ -2,10 +2,10 @@
 -- Assumes nothing.
 use native.Mathlib.Omega.{arith}
 use borrow.Author.Needs.{needs}
-use Rattle.parameters.proofs.Spelt.{descriptor}
+use Rattle.payloads.proofs.Spelt.{descriptor}
 use Rattle.words.proofs.Stores.{low8}
-use Rattle.parameters.proofs.data.mode_data.Statement.{statement}
-use Rattle.parameters.proofs.data.mode_data.Tie as tie
+use Rattle.payloads.proofs.data.mode_data.Statement.{statement}
+use Rattle.payloads.proofs.data.mode_data.Tie as tie
 
 protect-bit-requires : tie.Need-protect-bit-requires
 protect-bit-requires c κs = search needs

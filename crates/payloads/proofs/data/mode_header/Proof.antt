@@ -1,9 +1,9 @@
 -- The four bytes written out are the definition's.
 -- Assumes nothing.
 use borrow.Author.Needs.{needs}
-use Rattle.parameters.proofs.Spelt.{header}
-use Rattle.parameters.proofs.data.mode_header.Statement.{statement}
-use Rattle.parameters.proofs.data.mode_header.Tie as tie
+use Rattle.payloads.proofs.Spelt.{header}
+use Rattle.payloads.proofs.data.mode_header.Statement.{statement}
+use Rattle.payloads.proofs.data.mode_header.Tie as tie
 
 protect-bit-requires : tie.Need-protect-bit-requires
 protect-bit-requires c κs = search needs

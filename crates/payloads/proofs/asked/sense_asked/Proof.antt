@@ -2,9 +2,9 @@
 -- Assumes nothing.
 use mathlib.Core.Path.{refl}
 use borrow.Author.Needs.{needs}
-use Rattle.parameters.proofs.Replying.{kept-asked, attention-asked}
-use Rattle.parameters.proofs.replies.sense_asked.Statement.{statement}
-use Rattle.parameters.proofs.replies.sense_asked.Tie as tie
+use Rattle.payloads.proofs.Senses.{kept-asked, attention-asked}
+use Rattle.payloads.proofs.asked.sense_asked.Statement.{statement}
+use Rattle.payloads.proofs.asked.sense_asked.Tie as tie
 
 returns : tie.Need-returns
 returns c = kept-asked (c .before .before .before .args .d) _ (c .before .if1 .taken) refl

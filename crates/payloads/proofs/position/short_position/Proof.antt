@@ -2,10 +2,10 @@
 -- Assumes nothing.
 use native.Mathlib.Omega.{arith}
 use borrow.Author.Needs.{needs}
-use Rattle.parameters.proofs.Spelt.{short}
+use Rattle.payloads.proofs.Spelt.{short}
 use Rattle.words.proofs.Stores.{low8}
-use Rattle.parameters.proofs.position.short_position.Statement.{statement}
-use Rattle.parameters.proofs.position.short_position.Tie as tie
+use Rattle.payloads.proofs.position.short_position.Statement.{statement}
+use Rattle.payloads.proofs.position.short_position.Tie as tie
 
 position-flags-requires : tie.Need-position-flags-requires
 position-flags-requires c κs = search needs

@@ -2,10 +2,10 @@
 -- Assumes nothing.
 use native.Mathlib.Omega.{arith}
 use borrow.Author.Needs.{needs}
-use Rattle.parameters.proofs.Spelt.{long}
+use Rattle.payloads.proofs.Spelt.{long}
 use Rattle.words.proofs.Stores.{low8}
-use Rattle.parameters.proofs.position.long_position.Statement.{statement}
-use Rattle.parameters.proofs.position.long_position.Tie as tie
+use Rattle.payloads.proofs.position.long_position.Statement.{statement}
+use Rattle.payloads.proofs.position.long_position.Tie as tie
 
 position-flags-requires : tie.Need-position-flags-requires
 position-flags-requires c κs = search needs

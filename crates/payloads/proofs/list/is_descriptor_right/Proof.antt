@@ -1,9 +1,9 @@
 -- One law for each of the two returns.
 -- Assumes nothing.
 use borrow.Author.Needs.{needs}
-use Rattle.parameters.proofs.Lists.{descriptor-zeros, descriptor-length}
-use Rattle.parameters.proofs.list.is_descriptor_right.Statement.{statement}
-use Rattle.parameters.proofs.list.is_descriptor_right.Tie as tie
+use Rattle.payloads.proofs.Lists.{descriptor-zeros, descriptor-length}
+use Rattle.payloads.proofs.list.is_descriptor_right.Statement.{statement}
+use Rattle.payloads.proofs.list.is_descriptor_right.Tie as tie
 
 be32-at-requires : tie.Need-be32-at-requires
 be32-at-requires c κs = search needs

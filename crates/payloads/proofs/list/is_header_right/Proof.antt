@@ -1,9 +1,9 @@
 -- One law for each of the four returns.
 -- Assumes nothing.
 use borrow.Author.Needs.{needs}
-use Rattle.parameters.proofs.Lists.{header-1, header-2, header-whole, header-alone}
-use Rattle.parameters.proofs.list.is_header_right.Statement.{statement}
-use Rattle.parameters.proofs.list.is_header_right.Tie as tie
+use Rattle.payloads.proofs.Lists.{header-1, header-2, header-whole, header-alone}
+use Rattle.payloads.proofs.list.is_header_right.Statement.{statement}
+use Rattle.payloads.proofs.list.is_header_right.Tie as tie
 
 shared-slice-read-if1 : tie.Need-shared-slice-read-if1
 shared-slice-read-if1 c = search needs

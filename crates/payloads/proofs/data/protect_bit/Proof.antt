@@ -1,9 +1,9 @@
 -- The bit shifted to its place, by its two cases.
 -- Assumes nothing.
 use borrow.Author.Needs.{needs}
-use Rattle.parameters.proofs.Spelt.{bit7}
-use Rattle.parameters.proofs.data.protect_bit.Statement.{statement}
-use Rattle.parameters.proofs.data.protect_bit.Tie as tie
+use Rattle.payloads.proofs.Spelt.{bit7}
+use Rattle.payloads.proofs.data.protect_bit.Statement.{statement}
+use Rattle.payloads.proofs.data.protect_bit.Tie as tie
 
 cast-result : tie.Need-cast-result
 cast-result c = search needs

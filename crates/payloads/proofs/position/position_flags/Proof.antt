@@ -1,9 +1,9 @@
 -- Two bits shifted to their places, by their four cases.
 -- Assumes nothing.
 use borrow.Author.Needs.{needs}
-use Rattle.parameters.proofs.Spelt.{flagged}
-use Rattle.parameters.proofs.position.position_flags.Statement.{statement}
-use Rattle.parameters.proofs.position.position_flags.Tie as tie
+use Rattle.payloads.proofs.Spelt.{flagged}
+use Rattle.payloads.proofs.position.position_flags.Statement.{statement}
+use Rattle.payloads.proofs.position.position_flags.Tie as tie
 
 cast-result : tie.Need-cast-result
 cast-result c = search needs
