@@ -1,3 +1,2 @@
-pub mod Rows
-pub mod Counts
+pub mod Known
 pub mod Order

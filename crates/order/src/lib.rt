@@ -9,10 +9,6 @@ ghost use Rattle.commands.specs.Tests.{tests};
 ghost use Rattle.commands.specs.Kinds.{writes};
 ghost use Rattle.commands.specs.Act.{Seen};
 ghost use Rattle.order.specs.Stops.{stopOf};
-
-mod conditions;
-mod needs;
-
 use codes::Operation;
 use conditions::attention_waits;
 use conditions::is_any_field_wrong;
@@ -20,8 +16,8 @@ use conditions::is_list_length_wrong;
 use conditions::is_partition_wrong;
 use conditions::is_without_cartridge;
 use conditions::is_write_stopped;
-use needs::needed;
-use needs::taken;
+use conditions::needed;
+use conditions::taken;
 use record::Drive;
 use sense::DATA_PROTECT;
 use sense::ILLEGAL_REQUEST;

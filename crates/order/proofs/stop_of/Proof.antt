@@ -4,8 +4,8 @@ use mathlib.Core.Path.{refl, ap}
 use mathlib.Core.Bool.{not}
 use borrow.Author.Needs.{needs}
 use Rattle.commands.specs.Tests.{tests}
+use Rattle.order.proofs.Known.{served-known}
 use Rattle.order.proofs.Order.{holds, passes}
-use Rattle.order.proofs.Rows.{served-known}
 use Rattle.order.proofs.stop_of.Statement.{statement}
 use Rattle.order.proofs.stop_of.Tie as tie
 

@@ -3,9 +3,8 @@
 use mathlib.Core.Path.{refl}
 use borrow.Author.Needs.{needs}
 use Rattle.commands.specs.Tests.{tests}
-use Rattle.order.proofs.Counts.{falls-short, is-enough}
+use Rattle.order.proofs.Known.{guarded-by, falls-short, is-enough}
 use Rattle.order.proofs.Order.{holds, passes, ends}
-use Rattle.order.proofs.Rows.{guarded-by}
 use Rattle.order.proofs.stop_of_served.Statement.{statement}
 use Rattle.order.proofs.stop_of_served.Tie as tie
 
