@@ -75,3 +75,7 @@ packed a = a .carried + a .refusal * 2 ^ 32 + cond (eqb (a .status) checkConditi
 -- the view's answer: the length in bits 0 to 31, the start above
 unfoldable pub packedPart : ℕ → ℕ → ℕ
 packedPart start len = start * 2 ^ 32 + len
+
+-- what C gets of a service that may alter one slice: the number returned, and the slice
+abbrev pub numbered : Settled → ℕ × List ℕ
+numbered o = (packed (o .answer), o .lent)

@@ -297,27 +297,42 @@ module _ (rec : List ℕ) (x : Lent) where
 
   -- ---- which test gives which refusal
 
-  -- each refusal's place in the list
-  abbrev place : ℕ → ℕ
-  place n = cond (eqb n 1) 0 (cond (eqb n 4) 1 (cond (eqb n 2) 9 10))
-
   same : (a n : ℕ) → some (refuse a) ≡ some (refuse n) → a ≡ n
   same a n e = cc
 
-  only : (j n : ℕ) → givenAt T j ≡ some (refuse n) → j ≡ place n
+  -- each refusal has one place in the list, and no other stands there
+  data Place (j n : ℕ) : Type 0 where
+    place-1 : j ≡ 0 → n ≡ commandShort → Place j n
+    place-4 : j ≡ 1 → n ≡ recordFault → Place j n
+    place-2 : j ≡ 9 → n ≡ sentShort → Place j n
+    place-3 : j ≡ 10 → n ≡ receivedShort → Place j n
+
+  place : (j n : ℕ) → givenAt T j ≡ some (refuse n) → Place j n
   unfolding commandTests tests
-  only zero n e = ap place (same 1 n e)
-  only (suc zero) n e = ap place (same 4 n e)
-  only (suc (suc zero)) n e = cc
-  only (suc (suc (suc zero))) n e = cc
-  only (suc (suc (suc (suc zero)))) n e = cc
-  only (suc (suc (suc (suc (suc zero))))) n e = cc
-  only (suc (suc (suc (suc (suc (suc zero)))))) n e = cc
-  only (suc (suc (suc (suc (suc (suc (suc zero))))))) n e = cc
-  only (suc (suc (suc (suc (suc (suc (suc (suc zero)))))))) n e = cc
-  only (suc (suc (suc (suc (suc (suc (suc (suc (suc zero))))))))) n e = ap place (same 2 n e)
-  only (suc (suc (suc (suc (suc (suc (suc (suc (suc (suc zero)))))))))) n e = ap place (same 3 n e)
-  only (suc (suc (suc (suc (suc (suc (suc (suc (suc (suc (suc j))))))))))) n e = cc
+  place zero n e = place-1 refl (sym (same 1 n e))
+  place (suc zero) n e = place-4 refl (sym (same 4 n e))
+  place (suc (suc zero)) n e = absurd (let z : _≡_ {A = ℕ} 0 1 = cc in omega arith)
+  place (suc (suc (suc zero))) n e = absurd (let z : _≡_ {A = ℕ} 0 1 = cc in omega arith)
+  place (suc (suc (suc (suc zero)))) n e = absurd (let z : _≡_ {A = ℕ} 0 1 = cc in omega arith)
+  place (suc (suc (suc (suc (suc zero))))) n e = absurd (let z : _≡_ {A = ℕ} 0 1 = cc in omega arith)
+  place (suc (suc (suc (suc (suc (suc zero)))))) n e = absurd (let z : _≡_ {A = ℕ} 0 1 = cc in omega arith)
+  place (suc (suc (suc (suc (suc (suc (suc zero))))))) n e = absurd (let z : _≡_ {A = ℕ} 0 1 = cc in omega arith)
+  place (suc (suc (suc (suc (suc (suc (suc (suc zero)))))))) n e = absurd (let z : _≡_ {A = ℕ} 0 1 = cc in omega arith)
+  place (suc (suc (suc (suc (suc (suc (suc (suc (suc zero))))))))) n e = place-2 refl (sym (same 2 n e))
+  place (suc (suc (suc (suc (suc (suc (suc (suc (suc (suc zero)))))))))) n e = place-3 refl (sym (same 3 n e))
+  place (suc (suc (suc (suc (suc (suc (suc (suc (suc (suc (suc j))))))))))) n e = absurd (let z : _≡_ {A = ℕ} 0 1 = cc in omega arith)
+
+  abbrev placeOf : ℕ → ℕ
+  placeOf n = cond (eqb n 1) 0 (cond (eqb n 4) 1 (cond (eqb n 2) 9 10))
+
+  only : (j n : ℕ) → givenAt T j ≡ some (refuse n) → j ≡ placeOf n
+  only j n e = go (place j n e)
+    where
+      go : Place j n → j ≡ placeOf n
+      go (place-1 p q) = p ∙ sym (ap placeOf q)
+      go (place-4 p q) = p ∙ sym (ap placeOf q)
+      go (place-2 p q) = p ∙ sym (ap placeOf q)
+      go (place-3 p q) = p ∙ sym (ap placeOf q)
 
   -- ---- the answer
 
@@ -383,23 +398,15 @@ module _ (rec : List ℕ) (x : Lent) where
       Numbers : ℕ → Type 0
       Numbers n = (n ≡ 0) ⊎ ((n ≡ commandShort) ⊎ ((n ≡ sentShort) ⊎ ((n ≡ receivedShort) ⊎ (n ≡ recordFault))))
 
-      at-place : (j n : ℕ) → givenAt T j ≡ some (refuse n) → Numbers n
-      at-place zero n e = inr (inl (sym (same 1 n e)))
-      at-place (suc zero) n e = inr (inr (inr (inr (sym (same 4 n e)))))
-      at-place (suc (suc zero)) n e = absurd (let z : _≡_ {A = ℕ} 0 1 = cc in omega arith)
-      at-place (suc (suc (suc zero))) n e = absurd (let z : _≡_ {A = ℕ} 0 1 = cc in omega arith)
-      at-place (suc (suc (suc (suc zero)))) n e = absurd (let z : _≡_ {A = ℕ} 0 1 = cc in omega arith)
-      at-place (suc (suc (suc (suc (suc zero))))) n e = absurd (let z : _≡_ {A = ℕ} 0 1 = cc in omega arith)
-      at-place (suc (suc (suc (suc (suc (suc zero)))))) n e = absurd (let z : _≡_ {A = ℕ} 0 1 = cc in omega arith)
-      at-place (suc (suc (suc (suc (suc (suc (suc zero))))))) n e = absurd (let z : _≡_ {A = ℕ} 0 1 = cc in omega arith)
-      at-place (suc (suc (suc (suc (suc (suc (suc (suc zero)))))))) n e = absurd (let z : _≡_ {A = ℕ} 0 1 = cc in omega arith)
-      at-place (suc (suc (suc (suc (suc (suc (suc (suc (suc zero))))))))) n e = inr (inr (inl (sym (same 2 n e))))
-      at-place (suc (suc (suc (suc (suc (suc (suc (suc (suc (suc zero)))))))))) n e = inr (inr (inr (inl (sym (same 3 n e)))))
-      at-place (suc (suc (suc (suc (suc (suc (suc (suc (suc (suc (suc j))))))))))) n e = absurd (let z : _≡_ {A = ℕ} 0 1 = cc in omega arith)
+      at-place : (j n : ℕ) → Place j n → Numbers n
+      at-place j n (place-1 p q) = inr (inl q)
+      at-place j n (place-4 p q) = inr (inr (inr (inr q)))
+      at-place j n (place-2 p q) = inr (inr (inl q))
+      at-place j n (place-3 p q) = inr (inr (inr (inl q)))
 
       go : (t : Option Stop) → first T ≡ t → Numbers Refusal
       go none e = inl (by-act e)
-      go (some (refuse m)) e = let h = held T (refuse m) e in subst Numbers (sym (by-number m e)) (at-place (h .at) m (h .says))
+      go (some (refuse m)) e = let h = held T (refuse m) e in subst Numbers (sym (by-number m e)) (at-place (h .at) m (place (h .at) m (h .says)))
       go (some attend) e = inl (by-attention e)
       go (some (fault k a q)) e = inl (by-fault k a q e)
 

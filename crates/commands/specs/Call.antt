@@ -8,7 +8,7 @@ use lib.Dec.{eqb, leb, ltb}
 use lib.ListN.{length}
 use Rattle.words.specs.Words.{over}
 use Rattle.answers.specs.declared.Answer.{Answer}
-use Rattle.answers.specs.Answers.{commandShort, recordFault, refused}
+use Rattle.answers.specs.Answers.{commandShort, recordFault, refused, packed}
 use Rattle.image.specs.Image.{count, protected, sound, objects}
 use Rattle.changes.specs.Changes.{occurs, cleared}
 use Rattle.record.specs.declared.drive.Drive.{Drive}
@@ -121,7 +121,20 @@ written rec o = result (o .answer) (cond (eqb (o .answer .refusal) 0) (encodeOf 
 unfoldable pub commandCall : List ℕ → Lent → Result
 commandCall rec x = written rec (called (wellRecord rec) (decodeOf rec) x)
 
--- ---- "Command order: 1; 4; ..": all its tests as one list; the first that holds is what the call does (laws `call-stops`, `call-acts`)
+-- ---- what C gets: the number returned in place of the answer
+
+pub record Returned : Type 0 where
+  pub number : ℕ
+  pub rec : List ℕ
+  pub lent : Lent
+
+abbrev pub returned : ℕ → List ℕ → Lent → Returned
+returned n rec x = record { number = n; rec = rec; lent = x }
+
+abbrev pub numberedResult : Result → Returned
+numberedResult o = returned (packed (o .answer)) (o .rec) (o .lent)
+
+-- ---- "Command order: 1; 4; ..": all its tests as one list; the first that holds is what the call does (`call-stops`, `call-acts`, proofs/Ends.antt)
 
 unfoldable pub commandTests : List ℕ → Lent → List (Bool × Stop)
 commandTests rec x =

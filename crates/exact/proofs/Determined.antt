@@ -11,7 +11,9 @@ use Rattle.house.specs.Views.{viewOf}
 use Rattle.image.specs.Parts.{shown, placeOf}
 use Rattle.house.specs.Mount.{freshCall, mountCall}
 use Rattle.commands.specs.Call.{Lent, Result, result, commandCall}
-use Rattle.stormtoggle.specs.Calls.{Returned, numbered, numberedResult, viewNumber}
+use Rattle.answers.specs.Answers.{numbered}
+use Rattle.house.specs.Views.{viewNumber}
+use Rattle.commands.specs.Call.{Returned, numberedResult}
 use Rattle.house.specs.Views.{chosen, chosenPlace}
 
 -- ---- the services in Rattle

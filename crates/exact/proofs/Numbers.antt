@@ -27,7 +27,9 @@ use Rattle.commands.specs.Step.{statusOf, acted}
 use Rattle.commands.specs.Call.{Lent, Result, applied, commandCall}
 use Rattle.commands.proofs.Exact.{refusals}
 use Rattle.history.proofs.Ended.{Finished, by-number, by-sense, by-act, ended}
-use Rattle.stormtoggle.specs.Calls.{numbered, viewNumber, numberedResult}
+use Rattle.answers.specs.Answers.{numbered}
+use Rattle.house.specs.Views.{viewNumber}
+use Rattle.commands.specs.Call.{numberedResult}
 use Rattle.exact.specs.Numbers.{carriedIn, refusalIn, statusIn, Fits, Says, Shows}
 use Rattle.exact.proofs.Small.{carries}
 

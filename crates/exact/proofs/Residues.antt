@@ -3,7 +3,7 @@
 -- Assumes nothing.
 use Prim.Native.Nat.{ℕ, zero, suc, _+_, _-_, _%_, _^_, _≤_, _<_}
 use mathlib.Core.Path.{_≡_, refl, sym, ap, _∙_, subst}
-use mathlib.Core.Logic.{_↔_, _⊎_}
+use mathlib.Core.Logic.{_↔_, _⊎_, inl, inr}
 use mathlib.Core.Bool.{Bool, true, false, cond, not, _||_}
 use mathlib.Core.Option.{Option, none, some}
 use mathlib.Core.List.{List, [], _∷_}
@@ -30,7 +30,7 @@ use Rattle.sense.specs.Sense.{noSense, blankCheck, volumeOverflow, reports, tol
 use Rattle.record.specs.declared.drive.Drive.{Drive}
 use Rattle.record.specs.Record.{decodeOf, encodeOf, withSense}
 use Rattle.codes.specs.declared.operation.Operation.{Operation}
-use Rattle.codes.specs.declared.operation.Operation.the-variants.{TestUnitReady, Rewind, RequestSense, ReadBlockLimits, Read, Write, WriteFilemarks, Space, ModeSelect, Erase, ModeSense, LoadUnload, Locate, ReadPosition, NotServed}
+use Rattle.codes.specs.declared.operation.Operation.the-variants.{Read, Write, WriteFilemarks, Space}
 use Rattle.codes.specs.Codes.{Row, numberOf, codeOf, rows, rowOf, operationOf, maskAt, inMasks, masksHold}
 use Rattle.codes.specs.Fields.{fixedOf, transferOf, spaceCodeOf, spaceCountOf}
 use Rattle.codes.proofs.Rules.{Found, here, nowhere, found}
@@ -43,7 +43,7 @@ use Rattle.commands.specs.Step.{statusOf, keptOf, acted}
 use Rattle.commands.specs.Call.{Lent, Result, partition, looksAt, seenOf, seen, applied, written, commandCall, commandTests}
 use Rattle.commands.proofs.Faultless.{Well, back, place-small, kept-whole, inside}
 use Rattle.commands.proofs.Goes.{has-cartridge}
-use Rattle.commands.proofs.Exact.{acts}
+use Rattle.commands.proofs.Exact.{is-test, one-test, acts}
 use Rattle.commands.proofs.Passed.{all-false}
 use Rattle.reading.proofs.Meeting.{all-left}
 use Rattle.image.proofs.Tests.{both}
@@ -54,9 +54,26 @@ use Rattle.history.proofs.Answered.{length-blocks, length-marks}
 use Rattle.exact.specs.Senses.{senseAfter}
 use Rattle.exact.specs.Residues.{counts, fixedRun, leftOfOne, readResidue, crossesOne, readCrosses, writeResidue, marksResidue, spaceResidue, residueOf, placeAfter}
 use Rattle.exact.proofs.Tells.{Told}
-use Rattle.exact.proofs.Senses.{Plainly, after-act, heard, told-act, told-test}
+use Rattle.exact.proofs.Senses.{ByTest, after-act, heard, told-act, told-test}
 use Rattle.exact.proofs.Carried.{run-most}
 use Rattle.exact.proofs.Small.{bytes-at, image-small}
+
+-- ---- the four commands that count
+
+data Four (o : Operation) : Type 0 where
+  reads : o ≡ Read → Four o
+  writes : o ≡ Write → Four o
+  marks : o ≡ WriteFilemarks → Four o
+  spaces : o ≡ Space → Four o
+
+four : (o : Operation) → counts o ≡ true → Four o
+four o c = go (one-test o Read (Write ∷ WriteFilemarks ∷ Space ∷ []) (one-test o Write (WriteFilemarks ∷ Space ∷ []) (one-test o WriteFilemarks (Space ∷ []) (is-test o Space))) .0 c)
+  where
+    go : (o ≡ Read) ⊎ ((o ≡ Write) ⊎ ((o ≡ WriteFilemarks) ⊎ (o ≡ Space))) → Four o
+    go (inl e) = reads e
+    go (inr (inl e)) = writes e
+    go (inr (inr (inl e))) = marks e
+    go (inr (inr (inr e))) = spaces e
 
 -- ---- what is told reports the residue z
 
@@ -173,21 +190,16 @@ module _ (d : Drive) (cmd sent : List ℕ) (v : Seen) where
   -- each of the four
   pub act-reports : (o : Operation) → counts o ≡ true → Reports (residueOf o d cmd sent v) ((act o d cmd sent v) .tells)
   unfolding act residueOf
-  act-reports Read c = read-reports
-  act-reports Write c = write-reports
-  act-reports WriteFilemarks c = marks-report
-  act-reports Space c = space-reports
-  act-reports TestUnitReady c = tt
-  act-reports Rewind c = tt
-  act-reports RequestSense c = tt
-  act-reports ReadBlockLimits c = tt
-  act-reports ModeSelect c = absurd (not-both (sym c))
-  act-reports Erase c = tt
-  act-reports ModeSense c = tt
-  act-reports LoadUnload c = tt
-  act-reports Locate c = absurd (not-both (sym c))
-  act-reports ReadPosition c = tt
-  act-reports NotServed c = tt
+  act-reports o c = go (four o c)
+    where
+      P : Operation → Type 0
+      P k = Reports (residueOf k d cmd sent v) ((act k d cmd sent v) .tells)
+
+      go : Four o → P o
+      go (reads e) = subst P (sym e) read-reports
+      go (writes e) = subst P (sym e) write-reports
+      go (marks e) = subst P (sym e) marks-report
+      go (spaces e) = subst P (sym e) space-reports
 
   -- ---- where the position is left
 
@@ -212,21 +224,16 @@ module _ (d : Drive) (cmd sent : List ℕ) (v : Seen) where
 
   pub act-place : (o : Operation) → counts o ≡ true → (act o d cmd sent v) .drive .position ≡ placeAfter o d cmd sent v
   unfolding act placeAfter spacing
-  act-place Read c = read-place
-  act-place Write c = ap (λ (e : Drive). e .position) (writing-drive d cmd sent v)
-  act-place WriteFilemarks c = ap (λ (e : Drive). e .position) (marking-drive d cmd sent v)
-  act-place Space c = refl
-  act-place TestUnitReady c = absurd (not-both (sym c))
-  act-place Rewind c = absurd (not-both (sym c))
-  act-place RequestSense c = absurd (not-both (sym c))
-  act-place ReadBlockLimits c = absurd (not-both (sym c))
-  act-place ModeSelect c = absurd (not-both (sym c))
-  act-place Erase c = absurd (not-both (sym c))
-  act-place ModeSense c = absurd (not-both (sym c))
-  act-place LoadUnload c = absurd (not-both (sym c))
-  act-place Locate c = absurd (not-both (sym c))
-  act-place ReadPosition c = absurd (not-both (sym c))
-  act-place NotServed c = absurd (not-both (sym c))
+  act-place o c = go (four o c)
+    where
+      P : Operation → Type 0
+      P k = (act k d cmd sent v) .drive .position ≡ placeAfter k d cmd sent v
+
+      go : Four o → P o
+      go (reads e) = subst P (sym e) read-place
+      go (writes e) = subst P (sym e) (ap (λ (y : Drive). y .position) (writing-drive d cmd sent v))
+      go (marks e) = subst P (sym e) (ap (λ (y : Drive). y .position) (marking-drive d cmd sent v))
+      go (spaces e) = subst P (sym e) refl
 
 -- ---- a residue in 32 bits, and back
 
@@ -275,23 +282,15 @@ code-is op o e h = go (found rows op)
     go (here q) = sym q ∙ ap (λ (x : Operation). numberOf x) e
     go (nowhere q) = absurd (let z : numberOf o ≡ 0x100 = ap (λ (x : Operation). numberOf x) (sym e) ∙ ap (λ (r : Row). numberOf (r .operation)) q in omega arith)
 
-count-small : (cmd : List ℕ) (o : Operation) → operationOf (codeOf cmd) ≡ o → counts o ≡ true → masksHold cmd ≡ true → be 3 cmd 2 < 2 ^ 24
+count-small : (cmd : List ℕ) → counts (operationOf (codeOf cmd)) ≡ true → masksHold cmd ≡ true → be 3 cmd 2 < 2 ^ 24
 unfolding masksHold
-count-small cmd Read e c h = let q = code-is (codeOf cmd) Read e (omega arith) in three-bytes 0x03 cmd (rw q at h)
-count-small cmd Write e c h = let q = code-is (codeOf cmd) Write e (omega arith) in three-bytes 0x01 cmd (rw q at h)
-count-small cmd WriteFilemarks e c h = let q = code-is (codeOf cmd) WriteFilemarks e (omega arith) in three-bytes 0x00 cmd (rw q at h)
-count-small cmd Space e c h = let q = code-is (codeOf cmd) Space e (omega arith) in three-bytes 0x0F cmd (rw q at h)
-count-small cmd TestUnitReady e c h = absurd (not-both (sym c))
-count-small cmd Rewind e c h = absurd (not-both (sym c))
-count-small cmd RequestSense e c h = absurd (not-both (sym c))
-count-small cmd ReadBlockLimits e c h = absurd (not-both (sym c))
-count-small cmd ModeSelect e c h = absurd (not-both (sym c))
-count-small cmd Erase e c h = absurd (not-both (sym c))
-count-small cmd ModeSense e c h = absurd (not-both (sym c))
-count-small cmd LoadUnload e c h = absurd (not-both (sym c))
-count-small cmd Locate e c h = absurd (not-both (sym c))
-count-small cmd ReadPosition e c h = absurd (not-both (sym c))
-count-small cmd NotServed e c h = absurd (not-both (sym c))
+count-small cmd c h = go (four (operationOf (codeOf cmd)) c)
+  where
+    go : Four (operationOf (codeOf cmd)) → be 3 cmd 2 < 2 ^ 24
+    go (reads e) = three-bytes 0x03 cmd (rw (code-is (codeOf cmd) Read e (omega arith)) at h)
+    go (writes e) = three-bytes 0x01 cmd (rw (code-is (codeOf cmd) Write e (omega arith)) at h)
+    go (marks e) = three-bytes 0x00 cmd (rw (code-is (codeOf cmd) WriteFilemarks e (omega arith)) at h)
+    go (spaces e) = three-bytes 0x0F cmd (rw (code-is (codeOf cmd) Space e (omega arith)) at h)
 
 -- ---- every residue of the four is in range
 
@@ -412,35 +411,24 @@ module _ (rec : List ℕ) (x : Lent) where
       rw s (image-small (partition (d .current) (x .part0) (x .part1)) (inside d (x .part0) (x .part1) (r .well .cart) z .right) .0)
 
   in-range : Ready → counts o ≡ true → statusOf (E .tells) ≡ checkCondition → InRange (residueOf o d (x .cmd) (x .sent) v)
-  unfolding residueOf looksAt act statusOf
-  in-range r c s = go o refl c s
+  unfolding residueOf looksAt act statusOf transferOf
+  in-range r c s = go (four o c)
     where
       n : be 3 (x .cmd) 2 < 2 ^ 24
-      n = count-small (x .cmd) o refl c (in-masks r)
+      n = count-small (x .cmd) c (in-masks r)
 
-      m : transferOf (x .cmd) < 2 ^ 24
-      m = unfold transferOf in n
+      P : Operation → Type 0
+      P k = InRange (residueOf k d (x .cmd) (x .sent) v)
 
-      go : (k : Operation) → o ≡ k → counts k ≡ true → statusOf ((act k d (x .cmd) (x .sent) v) .tells) ≡ checkCondition → InRange (residueOf k d (x .cmd) (x .sent) v)
-      go Read e c s = read-in d (x .cmd) (x .sent) v m (seen-small Read e refl refl r)
-      go Write e c s = write-in d (x .cmd) (x .sent) v m
-      go WriteFilemarks e c s = marks-in d (x .cmd) (x .sent) v m
-      go Space e c s = by (eqb (spaceCodeOf (x .cmd)) toEnd) refl
-        where
-          by : (t : Bool) → eqb (spaceCodeOf (x .cmd)) toEnd ≡ t → InRange (spaceResidue d (x .cmd) v)
-          by true q = absurd (let z : _≡_ {A = ℕ} 0 checkCondition = sym (ap statusOf (end-silent d (x .cmd) (x .sent) v q)) ∙ s in omega arith)
-          by false q = space-in d (x .cmd) (x .sent) v n q
-      go TestUnitReady e c s = absurd (not-both (sym c))
-      go Rewind e c s = absurd (not-both (sym c))
-      go RequestSense e c s = absurd (not-both (sym c))
-      go ReadBlockLimits e c s = absurd (not-both (sym c))
-      go ModeSelect e c s = absurd (not-both (sym c))
-      go Erase e c s = absurd (not-both (sym c))
-      go ModeSense e c s = absurd (not-both (sym c))
-      go LoadUnload e c s = absurd (not-both (sym c))
-      go Locate e c s = absurd (not-both (sym c))
-      go ReadPosition e c s = absurd (not-both (sym c))
-      go NotServed e c s = absurd (not-both (sym c))
+      spaced : statusOf ((spacing d (x .cmd) v) .tells) ≡ checkCondition → (t : Bool) → eqb (spaceCodeOf (x .cmd)) toEnd ≡ t → InRange (spaceResidue d (x .cmd) v)
+      spaced z true q = absurd (let y : _≡_ {A = ℕ} 0 checkCondition = sym (ap statusOf (end-silent d (x .cmd) (x .sent) v q)) ∙ z in omega arith)
+      spaced z false q = space-in d (x .cmd) (x .sent) v n q
+
+      go : Four o → P o
+      go (reads e) = subst P (sym e) (read-in d (x .cmd) (x .sent) v n (seen-small Read e refl refl r))
+      go (writes e) = subst P (sym e) (write-in d (x .cmd) (x .sent) v n)
+      go (marks e) = subst P (sym e) (marks-in d (x .cmd) (x .sent) v n)
+      go (spaces e) = subst P (sym e) (spaced (subst (λ (k : Operation). statusOf ((act k d (x .cmd) (x .sent) v) .tells) ≡ checkCondition) e s) (eqb (spaceCodeOf (x .cmd)) toEnd) refl)
 
   -- status 02h after an act of one of the four: the sense kept is what it told
   pub record Reported : Type 0 where
@@ -491,7 +479,7 @@ module _ (rec : List ℕ) (x : Lent) where
       go : reports (counts o) (u .key) ≡ false → senseAfter R .information ≡ 0
       go h = ap (λ (s : Sense). s .information) (u .is) ∙ rw h refl
 
-  by-plain : Plainly rec x → ValidExactly
+  by-plain : ByTest rec x → ValidExactly
   unfolding told reports
   by-plain p = record { valid = (λ h. absurd (not-both (sym h ∙ ap (λ (s : Sense). s .valid) (p .is))), (λ h. absurd (other (h .1)))); otherwise = λ _. ap (λ (s : Sense). s .information) (p .is) }
     where

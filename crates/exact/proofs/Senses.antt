@@ -1,10 +1,10 @@
 -- Demand 1 of what a test tells, on the answer of the call and the record after it: each of 5/20/00, 5/24/00, 5/1A/00, 2/3A/00, 7/27/00, 6/28/00
 -- and 6/29/00 is told exactly when its test is the first that holds.
 -- Assumes nothing.
-use Prim.Native.Nat.{ℕ, zero, suc, _<_, _≤_}
+use Prim.Native.Nat.{ℕ, zero, suc, _<_}
 use mathlib.Core.Path.{_≡_, refl, sym, ap, _∙_, subst}
-use mathlib.Core.Logic.{_↔_, _≢_, _⊎_, inl, inr}
-use mathlib.Core.Bool.{Bool, true, false, not}
+use mathlib.Core.Logic.{_↔_, _≢_, _⊎_, inl, inr, ⊎-map}
+use mathlib.Core.Bool.{Bool, true, false, cond}
 use mathlib.Core.Option.{Option, none, some}
 use mathlib.Core.List.{List}
 use native.Mathlib.Omega.{arith}
@@ -13,7 +13,7 @@ use lib.IntN.{pos}
 use lib.ListN.{length}
 use lib.Seq.{take-all}
 use Rattle.answers.specs.Answers.{checkCondition, first}
-use Rattle.answers.proofs.First.{FirstAt, givenAt, held, first-at, or-three, same-test}
+use Rattle.answers.proofs.First.{FirstAt, givenAt, held, first-at, not-both, or-three, same-test}
 use Rattle.words.specs.Words.{bytes}
 use Rattle.sense.specs.declared.Sense.{Sense}
 use Rattle.sense.specs.Sense.{senseLength, notReady, illegalRequest, unitAttention, dataProtect, noAdditional, unqualified, listLengthError, invalidOperationCode, invalidField, invalidListField, writeProtected, mediumNotPresent, senseBytes, partsOf, reports, told, plainly, attentionSense}
@@ -104,125 +104,153 @@ module _ (rec : List ℕ) (x : Lent) where
   pub told-act : first T ≡ none → R .answer .status ≡ checkCondition → Told o (senseAfter R)
   told-act e h = subst (ToldBy o) (heard e h) (act-tells d (x .cmd) (x .sent) (seen o d x) o)
 
-  -- ---- where a sense that only tests tell comes from
-
-  data Where (a : ℕ) : Type 0 where
-    attention-waits : FirstAt T 2 → d .attention ≡ a → Where a
-    code-not-served : FirstAt T 3 → invalidOperationCode ≡ a → Where a
-    field-wrong : FirstAt T 4 → invalidField ≡ a → Where a
-    list-length-wrong : FirstAt T 5 → listLengthError ≡ a → Where a
-    nothing-loaded : FirstAt T 6 → mediumNotPresent ≡ a → Where a
-    no-such-partition : FirstAt T 7 → invalidField ≡ a → Where a
-    write-protected : FirstAt T 8 → writeProtected ≡ a → Where a
-
-  asc-of : (s : Sense) (u : Told o s) → s .asc ≡ u .asc
-  unfolding told
-  asc-of s u = ap (λ (t : Sense). t .asc) (u .is)
-
-  from-act : (a : ℕ) → a ≢ noAdditional → a ≢ invalidListField → Told o (senseAfter R) → senseAfter R .asc ≡ a → ⊥
-  from-act a n m u e = go (u .asc-known)
-    where
-      go : (u .asc ≡ noAdditional) ⊎ (u .asc ≡ invalidListField) → ⊥
-      go (inl z) = n (sym e ∙ asc-of (senseAfter R) u ∙ z)
-      go (inr z) = m (sym e ∙ asc-of (senseAfter R) u ∙ z)
+  -- ---- told by a test: which one, and just what
 
   never : (n : ℕ) → 0 < n → first T ≡ some (refuse n) → R .answer .status ≡ checkCondition → ⊥
   never n h e s = let z : _≡_ {A = ℕ} 0 checkCondition = sym (after-refusal n h e) ∙ s in omega arith
 
-  fault-asc : (key asc ascq : ℕ) → key < 16 → first T ≡ some (fault key asc ascq) → senseAfter R .asc ≡ asc
+  -- the ASC of the test at place j
+  pub data Known (j a : ℕ) : Type 0 where
+    attention-waits : j ≡ 2 → d .attention ≡ a → Known j a
+    code-not-served : j ≡ 3 → invalidOperationCode ≡ a → Known j a
+    field-wrong : j ≡ 4 → invalidField ≡ a → Known j a
+    list-length-wrong : j ≡ 5 → listLengthError ≡ a → Known j a
+    nothing-loaded : j ≡ 6 → mediumNotPresent ≡ a → Known j a
+    no-such-partition : j ≡ 7 → invalidField ≡ a → Known j a
+    write-protected : j ≡ 8 → writeProtected ≡ a → Known j a
+
+  -- key, ASC and ASCQ alone, under a key that no residue goes with
+  pub record ByTest : Type 0 where
+    pub place : ℕ
+    pub key : ℕ
+    pub asc : ℕ
+    pub ascq : ℕ
+    pub there : FirstAt T place
+    pub known : Known place asc
+    pub is : senseAfter R ≡ plainly key asc ascq
+    pub silent : reports true key ≡ false
+
+  by-fault : (j k a q : ℕ) → FirstAt T j → Known j a → k < 16 → reports true k ≡ false → first T ≡ some (fault k a q) → ByTest
+  by-fault j k a q f n h s e = record { place = j; key = k; asc = a; ascq = q; there = f; known = n; is = after-fault k a q h e .1; silent = s }
+
+  by-place : (j : ℕ) → FirstAt T j → first T ≡ givenAt T j → R .answer .status ≡ checkCondition → ByTest
+  unfolding commandTests tests reports
+  by-place zero f g s = absurd (never 1 (omega arith) g s)
+  by-place (suc zero) f g s = absurd (never 4 (omega arith) g s)
+  by-place (suc (suc zero)) f g s = record { place = 2; key = unitAttention; asc = d .attention; ascq = unqualified; there = f; known = attention-waits refl refl; is = after-attention g .1; silent = refl }
+  by-place (suc (suc (suc zero))) f g s = by-fault 3 _ _ _ f (code-not-served refl refl) (omega arith) refl g
+  by-place (suc (suc (suc (suc zero)))) f g s = by-fault 4 _ _ _ f (field-wrong refl refl) (omega arith) refl g
+  by-place (suc (suc (suc (suc (suc zero))))) f g s = by-fault 5 _ _ _ f (list-length-wrong refl refl) (omega arith) refl g
+  by-place (suc (suc (suc (suc (suc (suc zero)))))) f g s = by-fault 6 _ _ _ f (nothing-loaded refl refl) (omega arith) refl g
+  by-place (suc (suc (suc (suc (suc (suc (suc zero))))))) f g s = by-fault 7 _ _ _ f (no-such-partition refl refl) (omega arith) refl g
+  by-place (suc (suc (suc (suc (suc (suc (suc (suc zero)))))))) f g s = by-fault 8 _ _ _ f (write-protected refl refl) (omega arith) refl g
+  by-place (suc (suc (suc (suc (suc (suc (suc (suc (suc zero))))))))) f g s = absurd (never 2 (omega arith) g s)
+  by-place (suc (suc (suc (suc (suc (suc (suc (suc (suc (suc zero)))))))))) f g s = absurd (never 3 (omega arith) g s)
+  by-place (suc (suc (suc (suc (suc (suc (suc (suc (suc (suc (suc j))))))))))) f g s = absurd (not-both (sym (f .1)))
+
+  pub told-test : (p : Stop) → first T ≡ some p → R .answer .status ≡ checkCondition → ByTest
+  told-test p q s = let h = held T p q in by-place (h .at) (h .holds) (first-at T (h .at) (h .holds)) s
+
+  asc-plain : (k a q : ℕ) → senseAfter R ≡ plainly k a q → senseAfter R .asc ≡ a
   unfolding told
-  fault-asc key asc ascq h e = ap (λ (t : Sense). t .asc) (after-fault key asc ascq h e .1)
+  asc-plain k a q e = ap (λ (t : Sense). t .asc) e
 
-  attention-asc : first T ≡ some attend → senseAfter R .asc ≡ d .attention
+  -- what an act tells has another ASC
+  from-act : (a : ℕ) → a ≢ noAdditional → a ≢ invalidListField → Told o (senseAfter R) → senseAfter R .asc ≡ a → ⊥
   unfolding told
-  attention-asc e = ap (λ (t : Sense). t .asc) (after-attention e .1)
-
-  by-place : (j a : ℕ) → FirstAt T j → R .answer .status ≡ checkCondition → senseAfter R .asc ≡ a → first T ≡ givenAt T j → Where a
-  unfolding commandTests tests
-  by-place zero a f s e g = absurd (never 1 (omega arith) g s)
-  by-place (suc zero) a f s e g = absurd (never 4 (omega arith) g s)
-  by-place (suc (suc zero)) a f s e g = attention-waits f (sym (attention-asc g) ∙ e)
-  by-place (suc (suc (suc zero))) a f s e g = code-not-served f (sym (fault-asc _ _ _ (omega arith) g) ∙ e)
-  by-place (suc (suc (suc (suc zero)))) a f s e g = field-wrong f (sym (fault-asc _ _ _ (omega arith) g) ∙ e)
-  by-place (suc (suc (suc (suc (suc zero))))) a f s e g = list-length-wrong f (sym (fault-asc _ _ _ (omega arith) g) ∙ e)
-  by-place (suc (suc (suc (suc (suc (suc zero)))))) a f s e g = nothing-loaded f (sym (fault-asc _ _ _ (omega arith) g) ∙ e)
-  by-place (suc (suc (suc (suc (suc (suc (suc zero))))))) a f s e g = no-such-partition f (sym (fault-asc _ _ _ (omega arith) g) ∙ e)
-  by-place (suc (suc (suc (suc (suc (suc (suc (suc zero)))))))) a f s e g = write-protected f (sym (fault-asc _ _ _ (omega arith) g) ∙ e)
-  by-place (suc (suc (suc (suc (suc (suc (suc (suc (suc zero))))))))) a f s e g = absurd (never 2 (omega arith) g s)
-  by-place (suc (suc (suc (suc (suc (suc (suc (suc (suc (suc zero)))))))))) a f s e g = absurd (never 3 (omega arith) g s)
-  by-place (suc (suc (suc (suc (suc (suc (suc (suc (suc (suc (suc j))))))))))) a f s e g = absurd (let z : _≡_ {A = ℕ} 0 1 = cc in omega arith)
-
-  located : (a : ℕ) → a ≢ noAdditional → a ≢ invalidListField → R .answer .status ≡ checkCondition → senseAfter R .asc ≡ a → Where a
-  located a n m s e = go (first T) refl
+  from-act a n m u e = go (u .asc-known)
     where
-      go : (t : Option Stop) → first T ≡ t → Where a
+      asc-is : a ≡ u .asc
+      asc-is = sym e ∙ ap (λ (t : Sense). t .asc) (u .is)
+
+      go : (u .asc ≡ noAdditional) ⊎ (u .asc ≡ invalidListField) → ⊥
+      go (inl z) = n (asc-is ∙ z)
+      go (inr z) = m (asc-is ∙ z)
+
+  -- so a test told it
+  record Found (a : ℕ) : Type 0 where
+    place : ℕ
+    there : FirstAt T place
+    known : Known place a
+
+  find : (a : ℕ) → a ≢ noAdditional → a ≢ invalidListField → R .answer .status ≡ checkCondition → senseAfter R .asc ≡ a → Found a
+  find a n m s e = go (first T) refl
+    where
+      go : (t : Option Stop) → first T ≡ t → Found a
       go none q = absurd (from-act a n m (told-act q s) e)
-      go (some p) q = let h = held T p q in by-place (h .at) a (h .holds) s e (first-at T (h .at) (h .holds))
+      go (some p) q =
+          let b = told-test p q s in
+          record { place = b .place; there = b .there; known = subst (Known (b .place)) (sym (asc-plain (b .key) (b .asc) (b .ascq) (b .is)) ∙ e) (b .known) }
 
   -- ---- the attention that waits is 28h or 29h
 
   waits : FirstAt T 2 → (d .attention ≡ mediumChanged) ⊎ (d .attention ≡ powerOn)
-  waits f = let c = at-attention rec x .0 f in go (well-drive rec x (c .0) .attention) (c .1 .0)
+  unfolding attentionKnown
+  waits f = let c = at-attention rec x .0 f in by (c .1 .0) (or-three (eqb (d .attention) noAttention) (eqb (d .attention) mediumChanged) (eqb (d .attention) powerOn) (same-test (d .attention) noAttention) (same-test (d .attention) mediumChanged) (same-test (d .attention) powerOn) .0 (well-drive rec x (c .0) .attention))
     where
-      go : attentionKnown (d .attention) ≡ true → d .attention ≢ noAttention → (d .attention ≡ mediumChanged) ⊎ (d .attention ≡ powerOn)
-      go k z = unfold attentionKnown in by (or-three (eqb (d .attention) noAttention) (eqb (d .attention) mediumChanged) (eqb (d .attention) powerOn) (same-test (d .attention) noAttention) (same-test (d .attention) mediumChanged) (same-test (d .attention) powerOn) .0 k)
-        where
-          by : (d .attention ≡ noAttention) ⊎ ((d .attention ≡ mediumChanged) ⊎ (d .attention ≡ powerOn)) → (d .attention ≡ mediumChanged) ⊎ (d .attention ≡ powerOn)
-          by (inl e) = absurd (z e)
-          by (inr e) = e
+      by : d .attention ≢ noAttention → (d .attention ≡ noAttention) ⊎ ((d .attention ≡ mediumChanged) ⊎ (d .attention ≡ powerOn)) → (d .attention ≡ mediumChanged) ⊎ (d .attention ≡ powerOn)
+      by z (inl e) = absurd (z e)
+      by z (inr e) = e
 
-  not-waits : (a : ℕ) → a ≢ mediumChanged → a ≢ powerOn → FirstAt T 2 → d .attention ≡ a → ⊥
-  not-waits a n m f e = go (waits f)
+  -- ---- each ASC's place: one, but for 5/24/00, which has two
+
+  abbrev placeOf : ℕ → ℕ
+  placeOf a = cond (eqb a invalidOperationCode) 3 (cond (eqb a listLengthError) 5 (cond (eqb a mediumNotPresent) 6 (cond (eqb a writeProtected) 8 2)))
+
+  one-place : (j a : ℕ) → a ≢ invalidField → FirstAt T j → Known j a → j ≡ placeOf a
+  one-place j a n f (attention-waits p e) = go (waits (subst (FirstAt T) p f))
     where
-      go : (d .attention ≡ mediumChanged) ⊎ (d .attention ≡ powerOn) → ⊥
-      go (inl q) = n (sym e ∙ q)
-      go (inr q) = m (sym e ∙ q)
+      go : (d .attention ≡ mediumChanged) ⊎ (d .attention ≡ powerOn) → j ≡ placeOf a
+      go (inl q) = p ∙ ap placeOf (sym q ∙ e)
+      go (inr q) = p ∙ ap placeOf (sym q ∙ e)
+  one-place j a n f (code-not-served p e) = p ∙ ap placeOf e
+  one-place j a n f (field-wrong p e) = absurd (n (sym e))
+  one-place j a n f (list-length-wrong p e) = p ∙ ap placeOf e
+  one-place j a n f (nothing-loaded p e) = p ∙ ap placeOf e
+  one-place j a n f (no-such-partition p e) = absurd (n (sym e))
+  one-place j a n f (write-protected p e) = p ∙ ap placeOf e
+
+  once : (a : ℕ) → a ≢ noAdditional → a ≢ invalidListField → a ≢ invalidField → R .answer .status ≡ checkCondition → senseAfter R .asc ≡ a → FirstAt T (placeOf a)
+  once a n m k s e = let f = find a n m s e in subst (FirstAt T) (one-place (f .place) a k (f .there) (f .known)) (f .there)
+
+  twice : R .answer .status ≡ checkCondition → senseAfter R .asc ≡ invalidField → FirstAt T 4 ⊎ FirstAt T 7
+  twice s e = let f = find invalidField (λ q. omega arith) (λ q. omega arith) s e in go (f .place) (f .there) (f .known)
+    where
+      go : (j : ℕ) → FirstAt T j → Known j invalidField → FirstAt T 4 ⊎ FirstAt T 7
+      go j f (attention-waits p e) = absurd (by (waits (subst (FirstAt T) p f)))
+        where
+          by : (d .attention ≡ mediumChanged) ⊎ (d .attention ≡ powerOn) → ⊥
+          by (inl q) = omega arith
+          by (inr q) = omega arith
+      go j f (code-not-served p e) = absurd (omega arith)
+      go j f (field-wrong p e) = inl (subst (FirstAt T) p f)
+      go j f (list-length-wrong p e) = absurd (omega arith)
+      go j f (nothing-loaded p e) = absurd (omega arith)
+      go j f (no-such-partition p e) = inr (subst (FirstAt T) p f)
+      go j f (write-protected p e) = absurd (omega arith)
 
   -- ---- each sense exactly
 
-  tells-fault : (key asc ascq : ℕ) → key < 16 → first T ≡ some (fault key asc ascq) → Tells R key asc ascq
+  tells-plain : (key asc ascq : ℕ) → R .answer .status ≡ checkCondition → senseAfter R ≡ plainly key asc ascq → Tells R key asc ascq
   unfolding told
-  tells-fault key asc ascq h e =
-      let a = after-fault key asc ascq h e in
-      (a .0, (ap (λ (t : Sense). t .key) (a .1), (ap (λ (t : Sense). t .asc) (a .1), ap (λ (t : Sense). t .ascq) (a .1))))
+  tells-plain key asc ascq s e = (s, (ap (λ (t : Sense). t .key) e, (ap (λ (t : Sense). t .asc) e, ap (λ (t : Sense). t .ascq) e)))
 
-  tells-attention : (a : ℕ) → d .attention ≡ a → first T ≡ some attend → Tells R unitAttention a unqualified
-  unfolding told
-  tells-attention a q e =
-      let b = after-attention e in
-      (b .0, (ap (λ (t : Sense). t .key) (b .1), (ap (λ (t : Sense). t .asc) (b .1) ∙ q, ap (λ (t : Sense). t .ascq) (b .1))))
+  tells-fault : (key asc ascq : ℕ) → key < 16 → first T ≡ some (fault key asc ascq) → Tells R key asc ascq
+  tells-fault key asc ascq h e = let a = after-fault key asc ascq h e in tells-plain key asc ascq (a .0) (a .1)
 
   -- "operation code not served (5/20/00)"
   pub told-5-20-00 : Tells R illegalRequest invalidOperationCode unqualified ↔ (ComesCode rec x × CodeNotServed rec x)
   unfolding commandTests tests
   told-5-20-00 = (
-    (λ h. go (located invalidOperationCode (λ e. omega arith) (λ e. omega arith) (h .0) (h .1 .1 .0))),
+    (λ h. at-code rec x .0 (once invalidOperationCode (λ e. omega arith) (λ e. omega arith) (λ e. omega arith) (h .0) (h .1 .1 .0))),
     (λ h. tells-fault illegalRequest invalidOperationCode unqualified (omega arith) (first-at T 3 (at-code rec x .1 h))),
   )
-    where
-      go : Where invalidOperationCode → ComesCode rec x × CodeNotServed rec x
-      go (attention-waits f e) = absurd (not-waits invalidOperationCode (λ q. omega arith) (λ q. omega arith) f e)
-      go (code-not-served f e) = at-code rec x .0 f
-      go (field-wrong f e) = absurd (omega arith)
-      go (list-length-wrong f e) = absurd (omega arith)
-      go (nothing-loaded f e) = absurd (omega arith)
-      go (no-such-partition f e) = absurd (omega arith)
-      go (write-protected f e) = absurd (omega arith)
 
   -- "fields (5/24/00)", "LOCATE's partition number (5/24/00)"
   pub told-5-24-00 : Tells R illegalRequest invalidField unqualified ↔ ((ComesFields rec x × FieldWrong rec x) ⊎ (ComesPartition rec x × NoSuchPartition rec x))
   unfolding commandTests tests
-  told-5-24-00 = ((λ h. go (located invalidField (λ e. omega arith) (λ e. omega arith) (h .0) (h .1 .1 .0))), back)
+  told-5-24-00 = ((λ h. ⊎-map (at-fields rec x .0) (at-partition rec x .0) (twice (h .0) (h .1 .1 .0))), back)
     where
-      go : Where invalidField → (ComesFields rec x × FieldWrong rec x) ⊎ (ComesPartition rec x × NoSuchPartition rec x)
-      go (attention-waits f e) = absurd (not-waits invalidField (λ q. omega arith) (λ q. omega arith) f e)
-      go (code-not-served f e) = absurd (omega arith)
-      go (field-wrong f e) = inl (at-fields rec x .0 f)
-      go (list-length-wrong f e) = absurd (omega arith)
-      go (nothing-loaded f e) = absurd (omega arith)
-      go (no-such-partition f e) = inr (at-partition rec x .0 f)
-      go (write-protected f e) = absurd (omega arith)
-
       back : (ComesFields rec x × FieldWrong rec x) ⊎ (ComesPartition rec x × NoSuchPartition rec x) → Tells R illegalRequest invalidField unqualified
       back (inl h) = tells-fault illegalRequest invalidField unqualified (omega arith) (first-at T 4 (at-fields rec x .1 h))
       back (inr h) = tells-fault illegalRequest invalidField unqualified (omega arith) (first-at T 7 (at-partition rec x .1 h))
@@ -231,100 +259,40 @@ module _ (rec : List ℕ) (x : Lent) where
   pub told-5-1A-00 : Tells R illegalRequest listLengthError unqualified ↔ (ComesListLength rec x × ListLengthWrong rec x)
   unfolding commandTests tests
   told-5-1A-00 = (
-    (λ h. go (located listLengthError (λ e. omega arith) (λ e. omega arith) (h .0) (h .1 .1 .0))),
+    (λ h. at-list-length rec x .0 (once listLengthError (λ e. omega arith) (λ e. omega arith) (λ e. omega arith) (h .0) (h .1 .1 .0))),
     (λ h. tells-fault illegalRequest listLengthError unqualified (omega arith) (first-at T 5 (at-list-length rec x .1 h))),
   )
-    where
-      go : Where listLengthError → ComesListLength rec x × ListLengthWrong rec x
-      go (attention-waits f e) = absurd (not-waits listLengthError (λ q. omega arith) (λ q. omega arith) f e)
-      go (code-not-served f e) = absurd (omega arith)
-      go (field-wrong f e) = absurd (omega arith)
-      go (list-length-wrong f e) = at-list-length rec x .0 f
-      go (nothing-loaded f e) = absurd (omega arith)
-      go (no-such-partition f e) = absurd (omega arith)
-      go (write-protected f e) = absurd (omega arith)
 
   -- "nothing loaded (2/3A/00)"
   pub told-2-3A-00 : Tells R notReady mediumNotPresent unqualified ↔ (ComesCartridge rec x × NothingLoaded rec x)
   unfolding commandTests tests
   told-2-3A-00 = (
-    (λ h. go (located mediumNotPresent (λ e. omega arith) (λ e. omega arith) (h .0) (h .1 .1 .0))),
+    (λ h. at-cartridge rec x .0 (once mediumNotPresent (λ e. omega arith) (λ e. omega arith) (λ e. omega arith) (h .0) (h .1 .1 .0))),
     (λ h. tells-fault notReady mediumNotPresent unqualified (omega arith) (first-at T 6 (at-cartridge rec x .1 h))),
   )
-    where
-      go : Where mediumNotPresent → ComesCartridge rec x × NothingLoaded rec x
-      go (attention-waits f e) = absurd (not-waits mediumNotPresent (λ q. omega arith) (λ q. omega arith) f e)
-      go (code-not-served f e) = absurd (omega arith)
-      go (field-wrong f e) = absurd (omega arith)
-      go (list-length-wrong f e) = absurd (omega arith)
-      go (nothing-loaded f e) = at-cartridge rec x .0 f
-      go (no-such-partition f e) = absurd (omega arith)
-      go (write-protected f e) = absurd (omega arith)
 
   -- "protection of the current partition for WRITE, WRITE FILEMARKS and ERASE at any count (7/27/00)"
   pub told-7-27-00 : Tells R dataProtect writeProtected unqualified ↔ (ComesProtection rec x × WriteProtected rec x)
   unfolding commandTests tests
   told-7-27-00 = (
-    (λ h. go (located writeProtected (λ e. omega arith) (λ e. omega arith) (h .0) (h .1 .1 .0))),
+    (λ h. at-protection rec x .0 (once writeProtected (λ e. omega arith) (λ e. omega arith) (λ e. omega arith) (h .0) (h .1 .1 .0))),
     (λ h. tells-fault dataProtect writeProtected unqualified (omega arith) (first-at T 8 (at-protection rec x .1 h))),
   )
-    where
-      go : Where writeProtected → ComesProtection rec x × WriteProtected rec x
-      go (attention-waits f e) = absurd (not-waits writeProtected (λ q. omega arith) (λ q. omega arith) f e)
-      go (code-not-served f e) = absurd (omega arith)
-      go (field-wrong f e) = absurd (omega arith)
-      go (list-length-wrong f e) = absurd (omega arith)
-      go (nothing-loaded f e) = absurd (omega arith)
-      go (no-such-partition f e) = absurd (omega arith)
-      go (write-protected f e) = at-protection rec x .0 f
 
   -- "Attention answers 6 with 28/00 or 29/00": with a, which waits
-  attention-told : (a : ℕ) → a ≢ noAdditional → a ≢ invalidListField → mediumChanged ≤ a → a ≤ powerOn
+  attention-told : (a : ℕ) → a ≢ noAdditional → a ≢ invalidListField → a ≢ invalidField → placeOf a ≡ 2
       → Tells R unitAttention a unqualified ↔ ((ComesAttention rec x × AttentionWaits rec x) × (d .attention ≡ a))
   unfolding commandTests tests
-  attention-told a n m lo hi = ((λ h. go (located a n m (h .0) (h .1 .1 .0))), (λ h. tells-attention a (h .1) (first-at T 2 (at-attention rec x .1 (h .0)))))
+  attention-told a n m k p = ((λ h. go (subst (FirstAt T) p (once a n m k (h .0) (h .1 .1 .0))) (h .1 .1 .0)), back)
     where
-      go : Where a → (ComesAttention rec x × AttentionWaits rec x) × (d .attention ≡ a)
-      go (attention-waits f e) = (at-attention rec x .0 f, e)
-      go (code-not-served f e) = absurd (omega arith)
-      go (field-wrong f e) = absurd (omega arith)
-      go (list-length-wrong f e) = absurd (omega arith)
-      go (nothing-loaded f e) = absurd (omega arith)
-      go (no-such-partition f e) = absurd (omega arith)
-      go (write-protected f e) = absurd (omega arith)
+      go : FirstAt T 2 → senseAfter R .asc ≡ a → (ComesAttention rec x × AttentionWaits rec x) × (d .attention ≡ a)
+      go f e = (at-attention rec x .0 f, sym (asc-plain unitAttention (d .attention) unqualified (after-attention (first-at T 2 f) .1)) ∙ e)
+
+      back : (ComesAttention rec x × AttentionWaits rec x) × (d .attention ≡ a) → Tells R unitAttention a unqualified
+      back h = let b = after-attention (first-at T 2 (at-attention rec x .1 (h .0))) in tells-plain unitAttention a unqualified (b .0) (b .1 ∙ ap (λ (n : ℕ). plainly unitAttention n unqualified) (h .1))
 
   pub told-6-28-00 : Tells R unitAttention mediumChanged unqualified ↔ ((ComesAttention rec x × AttentionWaits rec x) × (decodeOf rec .attention ≡ mediumChanged))
-  told-6-28-00 = attention-told mediumChanged (λ e. omega arith) (λ e. omega arith) (omega arith) (omega arith)
+  told-6-28-00 = attention-told mediumChanged (λ e. omega arith) (λ e. omega arith) (λ e. omega arith) refl
 
   pub told-6-29-00 : Tells R unitAttention powerOn unqualified ↔ ((ComesAttention rec x × AttentionWaits rec x) × (decodeOf rec .attention ≡ powerOn))
-  told-6-29-00 = attention-told powerOn (λ e. omega arith) (λ e. omega arith) (omega arith) (omega arith)
-
-  -- ---- what a test tells: key, ASC and ASCQ alone, under a key that no residue goes with
-
-  pub record Plainly : Type 0 where
-    pub key : ℕ
-    pub asc : ℕ
-    pub ascq : ℕ
-    pub is : senseAfter R ≡ plainly key asc ascq
-    pub silent : reports true key ≡ false
-
-  by-fault : (k a q : ℕ) → k < 16 → reports true k ≡ false → first T ≡ some (fault k a q) → Plainly
-  by-fault k a q h s e = record { key = k; asc = a; ascq = q; is = after-fault k a q h e .1; silent = s }
-
-  plain-place : (j : ℕ) → R .answer .status ≡ checkCondition → first T ≡ givenAt T j → (p : Stop) → givenAt T j ≡ some p → Plainly
-  unfolding commandTests tests reports
-  plain-place zero s g p e = absurd (never 1 (omega arith) g s)
-  plain-place (suc zero) s g p e = absurd (never 4 (omega arith) g s)
-  plain-place (suc (suc zero)) s g p e = record { key = unitAttention; asc = d .attention; ascq = unqualified; is = after-attention g .1; silent = refl }
-  plain-place (suc (suc (suc zero))) s g p e = by-fault _ _ _ (omega arith) refl g
-  plain-place (suc (suc (suc (suc zero)))) s g p e = by-fault _ _ _ (omega arith) refl g
-  plain-place (suc (suc (suc (suc (suc zero))))) s g p e = by-fault _ _ _ (omega arith) refl g
-  plain-place (suc (suc (suc (suc (suc (suc zero)))))) s g p e = by-fault _ _ _ (omega arith) refl g
-  plain-place (suc (suc (suc (suc (suc (suc (suc zero))))))) s g p e = by-fault _ _ _ (omega arith) refl g
-  plain-place (suc (suc (suc (suc (suc (suc (suc (suc zero)))))))) s g p e = by-fault _ _ _ (omega arith) refl g
-  plain-place (suc (suc (suc (suc (suc (suc (suc (suc (suc zero))))))))) s g p e = absurd (never 2 (omega arith) g s)
-  plain-place (suc (suc (suc (suc (suc (suc (suc (suc (suc (suc zero)))))))))) s g p e = absurd (never 3 (omega arith) g s)
-  plain-place (suc (suc (suc (suc (suc (suc (suc (suc (suc (suc (suc j))))))))))) s g p e = absurd (let z : _≡_ {A = ℕ} 0 1 = cc in omega arith)
-
-  pub told-test : (p : Stop) → first T ≡ some p → R .answer .status ≡ checkCondition → Plainly
-  told-test p q s = let h = held T p q in plain-place (h .at) s (first-at T (h .at) (h .holds)) p (h .says)
+  told-6-29-00 = attention-told powerOn (λ e. omega arith) (λ e. omega arith) (λ e. omega arith) refl

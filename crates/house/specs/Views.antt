@@ -4,6 +4,7 @@ use Prim.Native.Nat.{ℕ}
 use mathlib.Core.Bool.{cond}
 use mathlib.Core.List.{List}
 use lib.Dec.{eqb}
+use Rattle.answers.specs.Answers.{packedPart}
 use Rattle.image.specs.declared.part.Part.{Part}
 use Rattle.image.specs.Parts.{emptyPart, partOf}
 
@@ -18,3 +19,7 @@ chosen p0 p1 k = cond (eqb k 1) p1 p0
 -- and where it lies in memory
 abbrev pub chosenPlace : ℕ × ℕ → ℕ × ℕ → ℕ → ℕ × ℕ
 chosenPlace q0 q1 k = cond (eqb k 1) q1 q0
+
+-- what C gets of it: start and length in one number, 0 if empty
+abbrev pub viewNumber : List ℕ → List ℕ → ℕ → ℕ → ℕ
+viewNumber p0 p1 k i = let p = viewOf p0 p1 k i in packedPart (p .start) (p .len)

@@ -20,7 +20,7 @@ use Rattle.answers.proofs.First.{first-at}
 use Rattle.commands.proofs.Ends.{call-stops, refused-leaves}
 use Rattle.step.specs.declared.stepping.Served.{Served}
 use Rattle.step.specs.Served.{outcomeOf}
-use Rattle.stormtoggle.specs.Calls.{returned, numberedResult}
+use Rattle.commands.specs.Call.{returned, numberedResult}
 
 module _ (rec : List ℕ) (x : Lent) where
   refused-so : (n : ℕ) → first (commandTests rec x) ≡ some (refuse n) → (n ≡ 0 → ⊥) → (a : Answer) → a ≡ refused n → result a rec x ≡ commandCall rec x

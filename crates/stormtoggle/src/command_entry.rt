@@ -1,7 +1,7 @@
 // The command: refused for the record's length; else the service, to which the drive that the record stands for is lent.
 ghost use mathlib.Core.Path.{_≡_};
 ghost use Rattle.commands.specs.Call.{lent, result, commandCall};
-ghost use Rattle.stormtoggle.specs.Calls.{returned, numberedResult};
+ghost use Rattle.commands.specs.Call.{returned, numberedResult};
 use answers::Answer;
 
 // A SCSI command on the drive and the cartridge lent with it.

@@ -4,7 +4,8 @@ ghost use mathlib.Core.Bool.{not};
 ghost use lib.Dec.{eqb};
 ghost use Rattle.house.specs.Mount.{freshCall, mountCall};
 ghost use Rattle.house.specs.Images.{blankCall, protectCall};
-ghost use Rattle.stormtoggle.specs.Calls.{numbered, viewNumber};
+ghost use Rattle.answers.specs.Answers.{numbered};
+ghost use Rattle.house.specs.Views.{viewNumber};
 
 #[no_mangle]
 pub extern "C" fn stormtoggle_fresh(rec: &mut [u8]) -> u64
