@@ -92,7 +92,7 @@ static inline void happens(enum happening happening, int holds)
 /* ---- the report */
 
 /* Only so many calls must reach everything. */
-enum { ENOUGH_CALLS = 200000 };
+enum { ENOUGH_CALLS = 100000 };
 
 static unsigned never_reached;
 
