@@ -12,7 +12,7 @@ use Rattle.image.specs.Example.{E}
 use Rattle.changes.specs.Changes.{retitle, entryOf, enter, occur, occurs, cleared}
 use Rattle.trailers.specs.Trailers.{reflag, protect, blank}
 use Rattle.image.specs.Parts.{partOf}
-use Rattle.house.specs.Views.{viewOf}
+use Rattle.views.specs.Views.{viewOf}
 use Rattle.edges.specs.Cases.{bare64}
 
 E-sound : sound E ≡ true

@@ -7,14 +7,14 @@ use mathlib.Core.List.{List}
 use Rattle.answers.specs.declared.Answer.{Answer}
 use Rattle.answers.specs.Answers.{Settled, settled}
 use Rattle.house.specs.Images.{blankCall, protectCall}
-use Rattle.house.specs.Views.{viewOf}
+use Rattle.views.specs.Views.{viewOf}
 use Rattle.image.specs.Parts.{shown, placeOf}
 use Rattle.house.specs.Mount.{freshCall, mountCall}
 use Rattle.commands.specs.Call.{Lent, Result, result, commandCall}
 use Rattle.answers.specs.Answers.{numbered}
-use Rattle.house.specs.Views.{viewNumber}
+use Rattle.views.specs.Views.{viewNumber}
 use Rattle.commands.specs.Call.{Returned, numberedResult}
-use Rattle.house.specs.Views.{chosen, chosenPlace}
+use Rattle.views.specs.Views.{chosen, chosenPlace}
 
 -- ---- the services in Rattle
 

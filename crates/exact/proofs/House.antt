@@ -26,7 +26,7 @@ use Rattle.commands.specs.Conditions.{Empty, RecordWrong, Unsound, LentUnsound}
 use Rattle.commands.proofs.Exact.{record-test, above-test}
 use Rattle.house.specs.Mount.{partitionsOf, rightLengths, bothSound, freshTests, freshCall, mountTests, mountFault, mountCall}
 use Rattle.house.specs.Images.{blankTests, blankCall, protectCall}
-use Rattle.house.specs.Views.{viewOf}
+use Rattle.views.specs.Views.{viewOf}
 use Rattle.exact.specs.House.{LengthOutside, LentOutside, Loaded, Mount5, Mount7, Mount6, NoBlock, NothingToView}
 
 -- ---- a service by its tests

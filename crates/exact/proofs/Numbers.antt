@@ -22,13 +22,13 @@ use Rattle.codes.specs.declared.operation.Operation.{Operation}
 use Rattle.codes.specs.Codes.{codeOf, operationOf}
 use Rattle.house.specs.Mount.{freshTests, freshCall, mountTests, mountFault, mountCall}
 use Rattle.house.specs.Images.{blankTests, blankCall, protectCall}
-use Rattle.house.specs.Views.{viewOf}
+use Rattle.views.specs.Views.{viewOf}
 use Rattle.commands.specs.Step.{statusOf, acted}
 use Rattle.commands.specs.Call.{Lent, Result, applied, commandCall}
 use Rattle.commands.proofs.Exact.{refusals}
 use Rattle.history.proofs.Ended.{Finished, by-number, by-sense, by-act, ended}
 use Rattle.answers.specs.Answers.{numbered}
-use Rattle.house.specs.Views.{viewNumber}
+use Rattle.views.specs.Views.{viewNumber}
 use Rattle.commands.specs.Call.{numberedResult}
 use Rattle.exact.specs.Numbers.{carriedIn, refusalIn, statusIn, Fits, Says, Shows}
 use Rattle.exact.proofs.Small.{carries}

@@ -17,7 +17,7 @@ use Rattle.objects.specs.Events.{Event, put, Clear, Stands, happens}
 use Rattle.objects.proofs.Standing.{get-take-lt}
 use Rattle.image.specs.Image.{count, entry, topBit, endAt, objectAt, objects}
 use Rattle.image.specs.Parts.{partOf, shown}
-use Rattle.house.specs.Views.{viewOf}
+use Rattle.views.specs.Views.{viewOf}
 use Rattle.image.proofs.Facts.{Sound, sound-of}
 use Rattle.image.proofs.Objects.{length-objects, object-is, object-data}
 use Rattle.record.specs.declared.drive.Drive.{Drive}

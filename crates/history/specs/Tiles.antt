@@ -12,7 +12,7 @@ use Rattle.objects.specs.Object.{Object, filemark, block, dataOf}
 use Rattle.objects.specs.Events.{Clear}
 use Rattle.image.specs.Image.{objects}
 use Rattle.image.specs.Parts.{shown}
-use Rattle.house.specs.Views.{viewOf}
+use Rattle.views.specs.Views.{viewOf}
 use Rattle.record.specs.Record.{decodeOf}
 use Rattle.codes.specs.declared.operation.Operation.the-variants.{Write, WriteFilemarks}
 use Rattle.codes.specs.Codes.{codeOf, operationOf}

@@ -8,17 +8,13 @@ use mathlib.Core.List.{List}
 use borrow.Author.Tests.{eq-eqb, ne-eqb, not-true, not-false}
 use Rattle.answers.specs.declared.Answer.{Answer}
 use Rattle.answers.specs.Answers.{recordFault, settled, refused, done, wrongLength, first}
-use Rattle.image.specs.declared.part.Part.{Part}
 use Rattle.image.specs.Image.{rightLength}
 use Rattle.trailers.specs.Trailers.{blank, protect}
 use Rattle.house.specs.Images.{blankCall, protectCall}
 use Rattle.image.specs.Image.{faultOf}
-use Rattle.image.specs.Parts.{emptyPart, partOf, shown, placeOf}
-use Rattle.house.specs.Views.{viewOf}
 use Rattle.record.specs.declared.drive.Drive.{Drive}
 use Rattle.record.specs.Record.{recordLength, encodeOf, freshDrive, mountedDrive}
 use Rattle.house.specs.Mount.{partitionsOf, freshCall, mountFault, mountCall}
-use Rattle.house.specs.Views.{chosen, chosenPlace}
 
 -- ---- blank
 
@@ -61,35 +57,3 @@ module _ (rec p0 p1 : List ℕ) (f : ℕ) (ef : f ≡ mountFault rec p0 p1) (a :
   pub mount-served : f ≡ 0 → (t : List ℕ) (d : Drive) (n : ℕ) → n ≡ partitionsOf p1 → d ≡ mountedDrive n → t ≡ encodeOf d → a ≡ done → settled a t ≡ mountCall rec p0 p1
   unfolding mountCall
   mount-served h t d n en ed et e = rw (← ef, eq-eqb f 0 h, e, et, ed, en) refl
-
--- ---- the view, by the partition's number
-
--- what a part of the chosen slice is, in bytes and in place
-abbrev pub Handed : List ℕ → ℕ × ℕ → List ℕ → ℕ × ℕ → Part → Type 0
-Handed r q s place p = (r ≡ shown s p) × (q ≡ placeOf place p)
-
-module _ (p0 p1 : List ℕ) (q0 q1 : ℕ × ℕ) (k i : ℕ) (r : List ℕ) (q : ℕ × ℕ) where
-  pub view-0 : k ≡ 0 → Handed r q p0 q0 (partOf p0 i) → Handed r q (chosen p0 p1 k) (chosenPlace q0 q1 k) (viewOf p0 p1 k i)
-  unfolding viewOf
-  view-0 h e = rw (h) e
-
-  pub view-1 : k ≡ 1 → Handed r q p1 q1 (partOf p1 i) → Handed r q (chosen p0 p1 k) (chosenPlace q0 q1 k) (viewOf p0 p1 k i)
-  unfolding viewOf
-  view-1 h e = rw (h) e
-
-  pub view-other : (k ≡ 0 → ⊥) → (k ≡ 1 → ⊥) → Handed r q p0 q0 emptyPart → Handed r q (chosen p0 p1 k) (chosenPlace q0 q1 k) (viewOf p0 p1 k i)
-  unfolding viewOf
-  view-other h g e = rw (ne-eqb k 0 h, ne-eqb k 1 g) e
-
-module _ (p0 p1 : List ℕ) (k i : ℕ) (p : Part) where
-  pub part-0 : k ≡ 0 → p ≡ partOf p0 i → p ≡ viewOf p0 p1 k i
-  unfolding viewOf
-  part-0 h e = rw h e
-
-  pub part-1 : k ≡ 1 → p ≡ partOf p1 i → p ≡ viewOf p0 p1 k i
-  unfolding viewOf
-  part-1 h e = rw h e
-
-  pub part-other : (k ≡ 0 → ⊥) → (k ≡ 1 → ⊥) → p ≡ emptyPart → p ≡ viewOf p0 p1 k i
-  unfolding viewOf
-  part-other h g e = rw (ne-eqb k 0 h, ne-eqb k 1 g) e

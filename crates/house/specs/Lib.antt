@@ -1,3 +1,2 @@
 pub mod Mount
-pub mod Views
 pub mod Images

@@ -5,7 +5,7 @@ ghost use lib.Dec.{eqb};
 ghost use Rattle.house.specs.Mount.{freshCall, mountCall};
 ghost use Rattle.house.specs.Images.{blankCall, protectCall};
 ghost use Rattle.answers.specs.Answers.{numbered};
-ghost use Rattle.house.specs.Views.{viewNumber};
+ghost use Rattle.views.specs.Views.{viewNumber};
 
 #[no_mangle]
 pub extern "C" fn stormtoggle_fresh(rec: &mut [u8]) -> u64
@@ -40,6 +40,6 @@ pub extern "C" fn stormtoggle_protect(s: &mut [u8], on: u64) -> u64
 pub extern "C" fn stormtoggle_view(p0: &[u8], p1: &[u8], partition: u64, object: u64) -> u64
     ensures { λ r. ⌜ r ≡ viewNumber (now (p0 .entry)) (now (p1 .entry)) partition object ⌝ }
 {
-    let p = house::view_part(p0, p1, partition, object);
+    let p = views::view_part(p0, p1, partition, object);
     answers::pack_part(p.start, p.len)
 }

@@ -2,9 +2,9 @@
 -- Assumes nothing.
 use mathlib.Core.Path.{refl}
 use borrow.Author.Needs.{needs}
-use Rattle.house.proofs.Cases.{view-0, view-1, view-other}
-use Rattle.house.proofs.views.view.Statement.{statement}
-use Rattle.house.proofs.views.view.Tie as tie
+use Rattle.views.proofs.Handed.{view-0, view-1, view-other}
+use Rattle.views.proofs.view.Statement.{statement}
+use Rattle.views.proofs.view.Tie as tie
 
 block-at-requires : tie.Need-block-at-requires
 block-at-requires c κs = search needs

@@ -2,9 +2,9 @@
 -- Assumes nothing.
 use mathlib.Core.Path.{refl}
 use borrow.Author.Needs.{needs}
-use Rattle.house.proofs.Cases.{part-0, part-1, part-other}
-use Rattle.house.proofs.views.view_part.Statement.{statement}
-use Rattle.house.proofs.views.view_part.Tie as tie
+use Rattle.views.proofs.Handed.{part-0, part-1, part-other}
+use Rattle.views.proofs.view_part.Statement.{statement}
+use Rattle.views.proofs.view_part.Tie as tie
 
 block-part-requires : tie.Need-block-part-requires
 block-part-requires c κs = search needs

@@ -1,8 +1,8 @@
 // The view: the very part of a lent partition that holds a block. It never refuses.
 ghost use mathlib.Core.Path.{_≡_};
-ghost use Rattle.house.specs.Views.{viewOf};
+ghost use Rattle.views.specs.Views.{viewOf};
 ghost use Rattle.image.specs.Parts.{shown, placeOf};
-ghost use Rattle.house.specs.Views.{chosen, chosenPlace};
+ghost use Rattle.views.specs.Views.{chosen, chosenPlace};
 use image::Part;
 
 // The part of partition 0 or 1 that holds block `object`; the empty part where there is none, or for another number.
