@@ -261,9 +261,9 @@ module _ (rec : List ℕ) (x : Lent) where
   unfolding commandTests tests
   comes-3 = given comes-2 (λ _. fails _ (less-test (length (x .sent)) (taken o d (x .cmd))))
 
-  pub acts : (first T ≡ none) ↔ Acts rec x
+  pub acts-exactly : (first T ≡ none) ↔ Acts rec x
   unfolding commandTests tests
-  acts = Iff·trans (none-held T, none-holds T) (given comes-3 (λ _. fails _ (less-test (length (x .received)) (needed o d (x .cmd)))))
+  acts-exactly = Iff·trans (none-held T, none-holds T) (given comes-3 (λ _. fails _ (less-test (length (x .received)) (needed o d (x .cmd)))))
 
   -- ---- which test is the first that holds, by the list and by 01's order
 
@@ -359,8 +359,8 @@ module _ (rec : List ℕ) (x : Lent) where
   by-act e = ap (λ (r : Result). r .answer .refusal) (call-acts rec x e)
 
   -- the call is refused by n exactly when the first test that holds gives n
-  pub refuses : (n : ℕ) → 0 < n → (Refusal ≡ n) ↔ (first T ≡ some (refuse n))
-  refuses n h = ((λ r. go (first T) refl r), (λ e. by-number n e))
+  pub refused-by : (n : ℕ) → 0 < n → (Refusal ≡ n) ↔ (first T ≡ some (refuse n))
+  refused-by n h = ((λ r. go (first T) refl r), (λ e. by-number n e))
     where
       go : (t : Option Stop) → first T ≡ t → Refusal ≡ n → t ≡ some (refuse n)
       go none e r = absurd (let z : 0 ≡ n = sym (by-act e) ∙ r in omega arith)
@@ -373,22 +373,22 @@ module _ (rec : List ℕ) (x : Lent) where
   -- "1: command block empty, or shorter than its length in the table below"
   pub refused-1 : (Refusal ≡ commandShort) ↔ BlockShort rec x
   unfolding commandTests
-  refused-1 = Iff·trans (refuses 1 (omega arith)) (Iff·trans (exactly T (refuse 1) 0 refl (λ j e. only j 1 e)) ((λ h. block-test .0 (h .1)), (λ h. (tt, block-test .1 h))))
+  refused-1 = Iff·trans (refused-by 1 (omega arith)) (Iff·trans (exactly T (refuse 1) 0 refl (λ j e. only j 1 e)) ((λ h. block-test .0 (h .1)), (λ h. (tt, block-test .1 h))))
 
   -- "4: record not 30 bytes or ill-formed; or, for a command, loaded and .."
   pub refused-4 : (Refusal ≡ recordFault) ↔ (Comes4 rec x × DriveWrong rec x)
   unfolding commandTests
-  refused-4 = Iff·trans (refuses 4 (omega arith)) (Iff·trans (exactly T (refuse 4) 1 refl (λ j e. only j 4 e)) (given comes-4 (λ _. drive-test)))
+  refused-4 = Iff·trans (refused-by 4 (omega arith)) (Iff·trans (exactly T (refuse 4) 1 refl (λ j e. only j 4 e)) (given comes-4 (λ _. drive-test)))
 
   -- "2: data sent is shorter than the command takes"
   pub refused-2 : (Refusal ≡ sentShort) ↔ (Comes2 rec x × SentShort rec x)
   unfolding commandTests tests
-  refused-2 = Iff·trans (refuses 2 (omega arith)) (Iff·trans (exactly T (refuse 2) 9 refl (λ j e. only j 2 e)) (given comes-2 (λ _. less-test (length (x .sent)) (taken o d (x .cmd)))))
+  refused-2 = Iff·trans (refused-by 2 (omega arith)) (Iff·trans (exactly T (refuse 2) 9 refl (λ j e. only j 2 e)) (given comes-2 (λ _. less-test (length (x .sent)) (taken o d (x .cmd)))))
 
   -- "3: receiving buffer is shorter than the command may need"
   pub refused-3 : (Refusal ≡ receivedShort) ↔ (Comes3 rec x × ReceivedShort rec x)
   unfolding commandTests tests
-  refused-3 = Iff·trans (refuses 3 (omega arith)) (Iff·trans (exactly T (refuse 3) 10 refl (λ j e. only j 3 e)) (given comes-3 (λ _. less-test (length (x .received)) (needed o d (x .cmd)))))
+  refused-3 = Iff·trans (refused-by 3 (omega arith)) (Iff·trans (exactly T (refuse 3) 10 refl (λ j e. only j 3 e)) (given comes-3 (λ _. less-test (length (x .received)) (needed o d (x .cmd)))))
 
   -- and by no other number
   pub refusals : (Refusal ≡ 0) ⊎ ((Refusal ≡ commandShort) ⊎ ((Refusal ≡ sentShort) ⊎ ((Refusal ≡ receivedShort) ⊎ (Refusal ≡ recordFault))))

@@ -4,12 +4,13 @@ use mathlib.Core.Bool.{true, false}
 use mathlib.Core.Path.{_≡_, refl}
 use mathlib.Core.List.{[], _∷_, _++_}
 use lib.ListN.{replicate}
-use Rattle.words.specs.Words.{be, bytes, over, zeros}
+use Rattle.words.specs.Words.{be, bytes, over}
 use Rattle.objects.specs.Object.{filemark, block}
 use Rattle.objects.specs.Events.{put, cut}
-use Rattle.image.specs.Image.{leastLength, count, flags, directory, size, entry, topBit, low31, endAt, follows, ordered, rightLength, sound, used, room, fits, zone, objectAt, upto, objects, filemarksBefore}
+use Rattle.image.specs.Image.{count, flags, directory, size, entry, topBit, low31, endAt, follows, ordered, rightLength, sound, used, room, fits, zone, objectAt, upto, objects, filemarksBefore}
 use Rattle.image.specs.Example.{E}
 use Rattle.changes.specs.Changes.{retitle, entryOf, enter, occur, occurs, cleared}
+use Rattle.trailers.specs.Least.{blank64}
 use Rattle.trailers.specs.Trailers.{reflag, protect, blank}
 use Rattle.image.specs.Parts.{partOf}
 use Rattle.views.specs.Views.{viewOf}
@@ -38,8 +39,8 @@ unfolding E be bytes over occurs occur retitle enter entryOf blank endAt entry l
 E-made = refl
 
 -- the blank of the table's cases is one that our software makes
-bare-made : blank (zeros leastLength) ≡ bare64
-unfolding blank retitle bytes over bare64
+bare-made : blank64 ≡ bare64
+unfolding blank64 blank retitle bytes over bare64
 bare-made = refl
 
 -- its views: the block, the filemark, no such object, no such partition

@@ -12,7 +12,6 @@ use borrow.Author.Tests.{eqb-true, eq-eqb, ne-eqb}
 use lib.Dec.{eqb}
 use lib.IntN.{ℤ, subℕ}
 use lib.ListN.{length, take, drop, getElem?, length-append, length-take}
-use lib.Seq.{take-append-seam}
 use Rattle.answers.specs.declared.Answer.{Answer}
 use Rattle.answers.specs.Answers.{refused, first}
 use Rattle.answers.proofs.First.{not-both}
@@ -33,14 +32,16 @@ use Rattle.commands.specs.Parameters.{wholeLength, listRight, newLength}
 use Rattle.commands.specs.Act.{Seen, Deed, good, checked, giving, carrying, at, unattended, withLength, warned, overflowed, readVariable, readRun, reading, replyOf, goesDown, wrote, writing, marking, spacing, locating, selecting, act}
 use Rattle.commands.specs.Tests.{bytesAsked, replyLength, needed, tests}
 use Rattle.commands.specs.Step.{statusOf, acted, checkAnswer}
-use Rattle.commands.specs.Call.{Lent, lent, Result, result, seen, looksAt, applied, written, commandCall}
+use Rattle.commands.specs.Call.{Lent, lent, Result, result, seen, looksAt, applied, written, commandTests, commandCall}
 use Rattle.commands.proofs.Passed.{Passed, passed}
 use Rattle.image.proofs.Tests.{both}
 use Rattle.commands.proofs.Replies.{reply-length}
-use Rattle.history.specs.History.{isGood}
+use Rattle.history.specs.History.{isGood, caused}
 use Rattle.history.proofs.Ended.{Finished, by-number, by-sense, by-act, ended}
 use Rattle.history.proofs.Answered.{answered}
-use Rattle.exact.specs.Carried.{gives, Carried}
+use Rattle.commands.specs.Stop.{Stop, refuse}
+use Rattle.history.specs.Answered.{bytesPut}
+use Rattle.exact.specs.Carried.{gives, dataGiven, Carried}
 
 -- ---- a run of whole blocks: as many bytes as blocks of the set length
 
@@ -236,28 +237,25 @@ module _ (rec : List ℕ) (x : Lent) where
   abbrev R : Result
   R = commandCall rec x
 
-  -- the bytes laid over the front of the receiving buffer, and the bytes carried
-  pub record Laid : Type 0 where
-    pub bytes : List ℕ
-    pub laid : R .lent .received ≡ over (x .received) 0 bytes
-    pub fits : length bytes ≤ length (x .received)
-    pub given : gives o ≡ true → length bytes ≡ R .answer .carried
-    pub other : gives o ≡ false → bytes ≡ []
-    pub taken : o ≡ ModeSelect → isGood (R .answer) ≡ true → R .answer .carried ≡ allocationOf (x .cmd)
-    pub not-taken : o ≡ ModeSelect → isGood (R .answer) ≡ false → R .answer .carried ≡ 0
-    pub none : gives o ≡ false → o ≢ Write → o ≢ ModeSelect → R .answer .carried ≡ 0
+  -- a call that a test stops gives nothing
+  stopped-gives : (p : Stop) → first (commandTests rec x) ≡ some p → dataGiven rec x ≡ []
+  unfolding dataGiven
+  stopped-gives p f = rw f refl
 
-  -- nothing is carried, and every byte of the buffer stays
-  still : (a : Answer) (s : List ℕ) → R ≡ result a s x → a .carried ≡ 0 → isGood a ≡ false → Laid
-  still a s e c g =
+  put-so : o ≡ Write → R .answer .carried ≡ bytesPut (caused rec (x .cmd) (x .sent) R)
+  put-so = answered rec (x .cmd) (x .part0) (x .part1) (x .sent) (x .received) .carried
+
+  still : (p : Stop) → first (commandTests rec x) ≡ some p → (a : Answer) (s : List ℕ) → R ≡ result a s x → a .carried ≡ 0 → isGood a ≡ false → Carried rec x R
+  still p f a s e c g =
       let carried-is : R .answer .carried ≡ 0 = ap (λ (r : Result). r .answer .carried) e ∙ c in
+      let nothing : dataGiven rec x ≡ [] = stopped-gives p f in
       record {
-        bytes = [];
-        laid = ap (λ (r : Result). r .lent .received) e ∙ sym (over-nil (x .received) 0);
-        fits = omega arith;
-        given = λ _. sym carried-is;
-        other = λ _. refl;
-        taken = λ _ h. absurd (let z : true ≡ false = sym h ∙ ap (λ (r : Result). isGood (r .answer)) e ∙ g in let y : _≡_ {A = ℕ} 0 1 = cc in omega arith);
+        given = λ _. carried-is ∙ sym (ap length nothing);
+        laid = ap (λ (r : Result). r .lent .received) e ∙ sym (ap (over (x .received) 0) nothing ∙ over-nil (x .received) 0);
+        room = rw nothing (omega arith);
+        not-given = λ _. nothing;
+        put = put-so;
+        taken = λ _ h. absurd (not-both (sym h ∙ ap (λ (r : Result). isGood (r .answer)) e ∙ g));
         not-taken = λ _ _. carried-is;
         none = λ _ _ _. carried-is;
       }
@@ -291,19 +289,23 @@ module _ (rec : List ℕ) (x : Lent) where
   unfolding act
   act-selects m = subst (λ (k : Operation). Selects d (x .cmd) (x .sent) (seen o d x) (act k d (x .cmd) (x .sent) (seen o d x))) (sym m) (selects d (x .cmd) (x .sent) (seen o d x))
 
-  acts-laid : first (tests o d (x .cmd) (seen o d x) (x .sent) (length (x .received))) ≡ none → R ≡ written rec (applied (acted o d (x .cmd) (x .sent) (seen o d x)) (looksAt o d (x .cmd)) x) → Laid
+  acted-gives : first (commandTests rec x) ≡ none → dataGiven rec x ≡ Act .received
+  unfolding dataGiven
+  acted-gives f = rw f refl
+
+  moved : first (commandTests rec x) ≡ none → first (tests o d (x .cmd) (seen o d x) (x .sent) (length (x .received))) ≡ none → R ≡ Acted → Carried rec x R
   unfolding applied acted
-  acts-laid q e =
+  moved f q e =
       let v = seen o d x in
-      let D = act o d (x .cmd) (x .sent) v in
-      let carried-is : R .answer .carried ≡ D .carried = ap (λ (r : Result). r .answer .carried) e in
+      let carried-is : R .answer .carried ≡ Act .carried = ap (λ (r : Result). r .answer .carried) e in
+      let data-is : dataGiven rec x ≡ Act .received = acted-gives f in
       record {
-        bytes = D .received;
-        laid = ap (λ (r : Result). r .lent .received) e;
-        fits = fits-so (gives o) refl;
-        given = λ h. act-lays d (x .cmd) (x .sent) v o h .counted ∙ sym carried-is;
-        other = λ h. act-lays-none d (x .cmd) (x .sent) v o h;
-        taken = λ m g. carried-is ∙ act-selects m .takes (good-none (D .tells) (sym (status-is e) ∙ eqb-true (R .answer .status) 0x00 (both (eqb (R .answer .refusal) 0) (eqb (R .answer .status) 0x00) g .1)));
+        given = λ h. carried-is ∙ sym (act-lays d (x .cmd) (x .sent) v o h .counted) ∙ sym (ap length data-is);
+        laid = ap (λ (r : Result). r .lent .received) e ∙ ap (over (x .received) 0) (sym data-is);
+        room = rw data-is (fits-so (gives o) refl);
+        not-given = λ h. data-is ∙ act-lays-none d (x .cmd) (x .sent) v o h;
+        put = put-so;
+        taken = λ m g. carried-is ∙ act-selects m .takes (good-none (Act .tells) (sym (status-is e) ∙ eqb-true (R .answer .status) 0x00 (both (eqb (R .answer .refusal) 0) (eqb (R .answer .status) 0x00) g .1)));
         not-taken = λ m g. carried-is ∙ act-selects m .refuses (λ z. never g (good-so (refusal-is e) (status-is e ∙ z)));
         none = λ h n m. carried-is ∙ act-carries-none d (x .cmd) (x .sent) v o h n m;
       }
@@ -315,35 +317,25 @@ module _ (rec : List ℕ) (x : Lent) where
       fits-so true h = let l = act-lays d (x .cmd) (x .sent) (seen o d x) o h in omega (arith, l .counted, l .within, k .receives)
       fits-so false h = rw (act-lays-none d (x .cmd) (x .sent) (seen o d x) o h) (omega arith)
 
-  call-laid : Laid
-  call-laid = go (ended rec (x .cmd) (x .part0) (x .part1) (x .sent) (x .received))
-    where
-      go : Finished rec (x .cmd) (x .part0) (x .part1) (x .sent) (x .received) → Laid
-      go (by-number n h f e) = still (refused n) rec e refl (rw (ne-eqb n 0 (λ z. omega arith)) refl)
-      go (by-sense s f e b w p l q) = still checkAnswer (encodeOf (withSense e b)) q refl refl
-      go (by-act f w q e) = acts-laid q e
-
   -- "bytes carried: to the receiving buffer, put by WRITE, or taken by a GOOD MODE SELECT, else 0"
-  pub carried : Carried rec x (commandCall rec x)
-  carried = record {
-    given = λ h. call-laid .laid ∙ ap (over (x .received) 0) (front h);
-    given-fits = λ h. subst (λ (n : ℕ). n ≤ length (x .received)) (call-laid .given h) (call-laid .fits);
-    put = answered rec (x .cmd) (x .part0) (x .part1) (x .sent) (x .received) .carried;
-    taken = call-laid .taken;
-    not-taken = call-laid .not-taken;
-    none = call-laid .none;
-  }
+  pub carried-bytes : Carried rec x (commandCall rec x)
+  carried-bytes = go (ended rec (x .cmd) (x .part0) (x .part1) (x .sent) (x .received))
     where
-      front : gives o ≡ true → call-laid .bytes ≡ take (R .answer .carried) (R .lent .received)
-      front h = unfold over in sym (rw (call-laid .laid, ← call-laid .given h) (take-append-seam (call-laid .bytes) (drop (0 + length (call-laid .bytes)) (x .received))))
+      go : Finished rec (x .cmd) (x .part0) (x .part1) (x .sent) (x .received) → Carried rec x R
+      go (by-number n h f e) = still (refuse n) f (refused n) rec e refl (rw (ne-eqb n 0 (λ z. omega arith)) refl)
+      go (by-sense s f e b w p l q) = still s f checkAnswer (encodeOf (withSense e b)) q refl refl
+      go (by-act f w q e) = moved f q e
 
   -- "Bytes past those carried stay."
   abbrev carriedThere : ℕ
   carriedThere = cond (gives o) (R .answer .carried) 0
 
   pub past-carried : (drop carriedThere (R .lent .received) ≡ drop carriedThere (x .received)) × (length (R .lent .received) ≡ length (x .received))
-  past-carried = (go (gives o) refl, ap length (call-laid .laid) ∙ length-over (x .received) 0 (call-laid .bytes) (omega (arith, call-laid .fits)))
+  past-carried = (go (gives o) refl, ap length (c .laid) ∙ length-over (x .received) 0 (dataGiven rec x) (omega (arith, c .room)))
     where
+      c : Carried rec x R
+      c = carried-bytes
+
       go : (t : Bool) → gives o ≡ t → drop (cond t (R .answer .carried) 0) (R .lent .received) ≡ drop (cond t (R .answer .carried) 0) (x .received)
-      go true h = ap (drop (R .answer .carried)) (call-laid .laid) ∙ drop-over (x .received) 0 (call-laid .bytes) (R .answer .carried) (omega (arith, call-laid .given h)) (omega (arith, call-laid .fits))
-      go false h = call-laid .laid ∙ ap (over (x .received) 0) (call-laid .other h) ∙ over-nil (x .received) 0
+      go true h = ap (drop (R .answer .carried)) (c .laid) ∙ drop-over (x .received) 0 (dataGiven rec x) (R .answer .carried) (omega (arith, c .given h)) (omega (arith, c .room))
+      go false h = c .laid ∙ ap (over (x .received) 0) (c .not-given h) ∙ over-nil (x .received) 0

@@ -8,7 +8,7 @@ use mathlib.Core.Bool.{Bool, true, false, cond, not, _&&_, _||_}
 use mathlib.Core.Option.{Option, none, some}
 use mathlib.Core.List.{List}
 use native.Mathlib.Omega.{arith}
-use borrow.Author.Tests.{eqb-true, eqb-false, ne-eqb, ltb-true, ltb-false}
+use borrow.Author.Tests.{eqb-true, eqb-false, eq-eqb, ne-eqb, not-false, ltb-true, ltb-false}
 use lib.Dec.{eqb, leb, ltb}
 use lib.ListN.{length}
 use lib.Seq.{slice}
@@ -27,7 +27,7 @@ use Rattle.commands.proofs.Exact.{record-test, above-test}
 use Rattle.house.specs.Mount.{partitionsOf, rightLengths, bothSound, freshTests, freshCall, mountTests, mountFault, mountCall}
 use Rattle.house.specs.Images.{blankTests, blankCall, protectCall}
 use Rattle.views.specs.Views.{viewOf}
-use Rattle.exact.specs.House.{LengthOutside, LentOutside, Loaded, Mount5, Mount7, Mount6, NoBlock, NothingToView}
+use Rattle.exact.specs.House.{LengthOutside, LentOutside, AlreadyLoaded, Mount5, Mount7, Mount6, NoBlock, NothingToView}
 
 -- ---- a service by its tests
 
@@ -105,9 +105,9 @@ module _ (rec : List ℕ) where
       only zero e = refl
       only (suc j) e = cc
 
-  pub fresh-0 : (freshCall rec .answer .refusal ≡ 0) ↔ (¬ (length rec ≢ recordLength))
+  pub fresh-0 : (freshCall rec .answer .refusal ≡ 0) ↔ (length rec ≡ recordLength)
   unfolding freshCall
-  fresh-0 = Iff·trans (serves-0 (freshTests rec) rec (encodeOf freshDrive) never) (past (not (eqb (length rec) recordLength)) (no-test (eqb (length rec) recordLength) (same-test (length rec) recordLength)))
+  fresh-0 = Iff·trans (serves-0 (freshTests rec) rec (encodeOf freshDrive) never) ((λ h. eqb-true (length rec) recordLength (not-false (eqb (length rec) recordLength) (h .1))), (λ e. (tt, rw (eq-eqb (length rec) recordLength e) refl)))
     where
       never : (j : ℕ) → givenAt (freshTests rec) j ≡ some 0 → ⊥
       never zero e = let z : _≡_ {A = ℕ} 4 0 = same 4 0 e in omega arith
@@ -216,7 +216,7 @@ module _ (rec p0 p1 : List ℕ) where
   mount-4 = Iff·trans (serves T rec made 4 (omega arith)) (Iff·trans (exactly T 4 0 refl (λ j e. only-there j 4 e)) (unit (not (wellRecord rec)) (record-test rec)))
 
   -- "5: mount while loaded"
-  pub mount-5 : (mountCall rec p0 p1 .answer .refusal ≡ alreadyLoaded) ↔ (Mount5 rec × Loaded rec)
+  pub mount-5 : (mountCall rec p0 p1 .answer .refusal ≡ alreadyLoaded) ↔ (Mount5 rec × AlreadyLoaded rec)
   unfolding mountCall mountFault
   mount-5 = Iff·trans (serves T rec made 5 (omega arith)) (Iff·trans (exactly T 5 1 refl (λ j e. only-there j 5 e)) (given comes-5 (λ _. same-test (decodeOf rec .loaded) 1)))
 

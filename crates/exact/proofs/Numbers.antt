@@ -1,7 +1,7 @@
 -- The number that each entry for C returns says the three numbers of its answer: the status is 00h or 02h, the refusal is below 8, the bytes carried
 -- are below 2^32, and the header's macros give them back. A view's number gives back the start and length of the part.
 -- Assumes nothing.
-use Prim.Native.Nat.{ℕ, suc, _+_, _-_, _*_, _^_, _<_}
+use Prim.Native.Nat.{ℕ, suc, _-_, _/_, _^_, _<_}
 use mathlib.Core.Path.{_≡_, refl, sym, ap, _∙_, subst}
 use mathlib.Core.Logic.{_⊎_, inl, inr}
 use mathlib.Core.Bool.{Bool, true, false, cond, not, _&&_}
@@ -11,7 +11,8 @@ use native.Mathlib.Omega.{arith}
 use borrow.Author.Tests.{ltb-true}
 use lib.Dec.{eqb, ltb}
 use Rattle.answers.specs.declared.Answer.{Answer}
-use Rattle.answers.specs.Answers.{checkCondition, commandShort, sentShort, receivedShort, recordFault, refused, done, first, refusalOf, settled, settledBy, packed, packedPart}
+use Rattle.answers.specs.Answers.{checkCondition, commandShort, sentShort, receivedShort, recordFault, refused, done, first, refusalOf, settled, settledBy, packed}
+use Rattle.answers.proofs.Fields.{Unpacked, unpacked, part-unpacked}
 use Rattle.image.specs.declared.part.Part.{Part}
 use Rattle.image.specs.Image.{count, entry, topBit, endAt, sound, faultOf, imageTests}
 use Rattle.image.specs.Parts.{emptyPart, partOf}
@@ -30,26 +31,25 @@ use Rattle.history.proofs.Ended.{Finished, by-number, by-sense, by-act, ended}
 use Rattle.answers.specs.Answers.{numbered}
 use Rattle.views.specs.Views.{viewNumber}
 use Rattle.commands.specs.Call.{numberedResult}
-use Rattle.exact.specs.Numbers.{carriedIn, refusalIn, statusIn, Fits, Says, Shows}
+use Rattle.exact.specs.Numbers.{InBits, Says, Shows}
 use Rattle.exact.proofs.Small.{carries}
 
 -- ---- a number, by its parts
 
-unpack : (n c r : ℕ) (t : Bool) → c < 2 ^ 32 → r < 8 → n ≡ c + r * 2 ^ 32 + cond t (2 ^ 35) 0 → (carriedIn n ≡ c) × (refusalIn n ≡ r) × (statusIn n ≡ cond t 2 0) × (n < 2 ^ 36)
-unpack n c r true h k e = (omega arith, omega arith, omega arith, omega arith)
-unpack n c r false h k e = (omega arith, omega arith, omega arith, omega arith)
-
-pub says : (a : Answer) → Fits a → Says (packed a) a
-unfolding packed
+pub says : (a : Answer) → InBits a → Says (packed a) a
 says a f = go (f .status)
   where
+    u : Unpacked (packed a) a
+    u = unpacked a (f .carried) (f .refusal)
+
+    -- the bit that says the status is t
+    bit : (t : Bool) → eqb (a .status) checkCondition ≡ t → a .status ≡ cond t checkCondition 0x00 → Says (packed a) a
+    bit true e q = let z : packed a / 2 ^ 35 ≡ 1 = u .status ∙ ap (λ (t : Bool). cond t 1 0) e in record { fits = f; carried = u .carried; refusal = u .refusal; status = omega arith; rest = omega arith }
+    bit false e q = let z : packed a / 2 ^ 35 ≡ 0 = u .status ∙ ap (λ (t : Bool). cond t 1 0) e in record { fits = f; carried = u .carried; refusal = u .refusal; status = omega arith; rest = omega arith }
+
     go : (a .status ≡ 0x00) ⊎ (a .status ≡ checkCondition) → Says (packed a) a
-    go (inl e) =
-        let u = unpack (packed a) (a .carried) (a .refusal) false (f .carried) (f .refusal) (rw e refl) in
-        record { fits = f; carried = u .0; refusal = u .1; status = u .2 ∙ sym e; rest = u .3 }
-    go (inr e) =
-        let u = unpack (packed a) (a .carried) (a .refusal) true (f .carried) (f .refusal) (rw e refl) in
-        record { fits = f; carried = u .0; refusal = u .1; status = u .2 ∙ sym e; rest = u .3 }
+    go (inl e) = bit false (rw e refl) e
+    go (inr e) = bit true (rw e refl) e
 
 -- ---- the house services
 
@@ -67,10 +67,10 @@ first-small (t ∷ ts) h = go (t .0) (both (ltb (t .1) 8) (small ts) h) (first-s
     go true p ih = ltb-true (t .1) 8 (p .0)
     go false p ih = ih (p .1)
 
-settles : (n : ℕ) (lent made : List ℕ) → n < 8 → Fits (settledBy n lent made .answer)
+settles : (n : ℕ) (lent made : List ℕ) → n < 8 → InBits (settledBy n lent made .answer)
 settles n lent made h = go (eqb n 0)
   where
-    go : (t : Bool) → Fits (cond t (settled done made) (settled (refused n) lent) .answer)
+    go : (t : Bool) → InBits (cond t (settled done made) (settled (refused n) lent) .answer)
     go true = record { status = inl refl; refusal = omega arith; carried = omega arith }
     go false = record { status = inl refl; refusal = h; carried = omega arith }
 
@@ -112,11 +112,11 @@ module _ (rec : List ℕ) (x : Lent) where
   status-known (some s) = inr refl
 
   -- "SCSI status (00h or 02h)"; and the three numbers fit
-  pub command-fits : Fits (R .answer)
+  pub command-fits : InBits (R .answer)
   unfolding applied acted
   command-fits = go (ended rec (x .cmd) (x .part0) (x .part1) (x .sent) (x .received))
     where
-      go : Finished rec (x .cmd) (x .part0) (x .part1) (x .sent) (x .received) → Fits (R .answer)
+      go : Finished rec (x .cmd) (x .part0) (x .part1) (x .sent) (x .received) → InBits (R .answer)
       go (by-number n h f e) =
           let q = ap (λ (r : Result). r .answer) e in
           record { status = inl (ap (λ (a : Answer). a .status) q); refusal = refusal-small; carried = rw (ap (λ (a : Answer). a .carried) q) (omega arith) }
@@ -155,5 +155,7 @@ view-small p0 p1 k i = go (eqb k 0) (eqb k 1)
     go false false = (omega arith, omega arith)
 
 pub view-number : (p0 p1 : List ℕ) (k i : ℕ) → Shows (viewNumber p0 p1 k i) (viewOf p0 p1 k i .start) (viewOf p0 p1 k i .len)
-unfolding packedPart
-view-number p0 p1 k i = let s = view-small p0 p1 k i in record { begins = omega (arith, s .0, s .1); lasts = omega (arith, s .0, s .1); whole = omega (arith, s .0, s .1) }
+view-number p0 p1 k i =
+    let s = view-small p0 p1 k i in
+    let u = part-unpacked (viewOf p0 p1 k i .start) (viewOf p0 p1 k i .len) (omega (arith, s .1)) in
+    record { begins = omega (arith, s .0, u .1); lasts = u .0; whole = omega (arith, s .0, u .1) }

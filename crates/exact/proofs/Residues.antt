@@ -26,7 +26,7 @@ use Rattle.objects.specs.Room.{roomOf, fitsIn, zoneIn}
 use Rattle.objects.specs.Transfer.{Ended, whole, oddLength, atFilemark, atEnd, fitting}
 use Rattle.objects.proofs.Residue.{residue-on, residue-back}
 use Rattle.sense.specs.declared.Sense.{Sense}
-use Rattle.sense.specs.Sense.{noSense, blankCheck, volumeOverflow, reports, told}
+use Rattle.sense.specs.Sense.{noSense, blankCheck, volumeOverflow, emptySense, reports, told}
 use Rattle.record.specs.declared.drive.Drive.{Drive}
 use Rattle.record.specs.Record.{decodeOf, encodeOf, withSense}
 use Rattle.codes.specs.declared.operation.Operation.{Operation}
@@ -43,7 +43,7 @@ use Rattle.commands.specs.Step.{statusOf, keptOf, acted}
 use Rattle.commands.specs.Call.{Lent, Result, partition, looksAt, seenOf, seen, applied, written, commandCall, commandTests}
 use Rattle.commands.proofs.Faultless.{Well, back, place-small, kept-whole, inside}
 use Rattle.commands.proofs.Goes.{has-cartridge}
-use Rattle.commands.proofs.Exact.{is-test, one-test, acts}
+use Rattle.commands.proofs.Exact.{is-test, one-test, acts-exactly}
 use Rattle.commands.proofs.Passed.{all-false}
 use Rattle.reading.proofs.Meeting.{all-left}
 use Rattle.image.proofs.Tests.{both}
@@ -359,7 +359,7 @@ module _ (d : Drive) (cmd sent : List ℕ) (v : Seen) where
   unfolding spacing movement spaceTells M.toEndOfData
   end-silent e = rw e refl
 
--- ---- of a call that acts
+-- ---- of a call that acts-exactly
 
 module _ (rec : List ℕ) (x : Lent) where
   abbrev d : Drive
@@ -381,20 +381,20 @@ module _ (rec : List ℕ) (x : Lent) where
   E = act o d (x .cmd) (x .sent) v
 
   -- nothing is wrong with its drive, and no test stops it
-  record Ready : Type 0 where
+  record Unstopped : Type 0 where
     well : Well d (x .part0) (x .part1)
     passes : first (tests o d (x .cmd) v (x .sent) (length (x .received))) ≡ none
     is : R ≡ written rec (applied (acted o d (x .cmd) (x .sent) v) (looksAt o d (x .cmd)) x)
 
-  ready : first T ≡ none → Ready
-  ready n = go (ended rec (x .cmd) (x .part0) (x .part1) (x .sent) (x .received))
+  unstopped : first T ≡ none → Unstopped
+  unstopped n = go (ended rec (x .cmd) (x .part0) (x .part1) (x .sent) (x .received))
     where
-      go : Finished rec (x .cmd) (x .part0) (x .part1) (x .sent) (x .received) → Ready
+      go : Finished rec (x .cmd) (x .part0) (x .part1) (x .sent) (x .received) → Unstopped
       go (by-number m h f e) = absurd (let z : some (refuse m) ≡ none = sym f ∙ n in let y : _≡_ {A = ℕ} 0 1 = cc in omega arith)
       go (by-sense s f e b w p l q) = absurd (let z : some s ≡ none = sym f ∙ n in let y : _≡_ {A = ℕ} 0 1 = cc in omega arith)
       go (by-act f w q e) = record { well = w; passes = q; is = e }
 
-  in-masks : Ready → masksHold (x .cmd) ≡ true
+  in-masks : Unstopped → masksHold (x .cmd) ≡ true
   unfolding tests
   in-masks r = go (masksHold (x .cmd)) (all-false (tests o d (x .cmd) v (x .sent) (length (x .received))) (r .passes) .1 .1 .0)
     where
@@ -403,14 +403,14 @@ module _ (rec : List ℕ) (x : Lent) where
       go false h = absurd (not-both h)
 
   -- the objects that READ sees lie in a sound image
-  seen-small : (k : Operation) → o ≡ k → looksAt k d (x .cmd) ≡ d .current → needsCartridge k ≡ true → Ready → bytesIn (v .objects) < 2 ^ 31
+  seen-small : (k : Operation) → o ≡ k → looksAt k d (x .cmd) ≡ d .current → needsCartridge k ≡ true → Unstopped → bytesIn (v .objects) < 2 ^ 31
   unfolding seenOf
   seen-small k e l n r =
       let z = has-cartridge d (x .cmd) (x .sent) (length (x .received)) v o (ap needsCartridge e ∙ n) (r .passes) in
       let s = sees rec x (r .well) o (r .passes) (ap (λ (y : Operation). looksAt y d (x .cmd)) e ∙ l) z in
       rw s (image-small (partition (d .current) (x .part0) (x .part1)) (inside d (x .part0) (x .part1) (r .well .cart) z .right) .0)
 
-  in-range : Ready → counts o ≡ true → statusOf (E .tells) ≡ checkCondition → InRange (residueOf o d (x .cmd) (x .sent) v)
+  in-range : Unstopped → counts o ≡ true → statusOf (E .tells) ≡ checkCondition → InRange (residueOf o d (x .cmd) (x .sent) v)
   unfolding residueOf looksAt act statusOf transferOf
   in-range r c s = go (four o c)
     where
@@ -437,10 +437,10 @@ module _ (rec : List ℕ) (x : Lent) where
     pub read-as : signed (2 ^ 31) (senseAfter R .information) ≡ residueOf o d (x .cmd) (x .sent) v
 
   pub reported : Acts rec x → counts o ≡ true → R .answer .status ≡ checkCondition → Reported
-  reported a c s = record { valid = said .0; information = said .1; read-as = ap (signed (2 ^ 31)) (said .1) ∙ read-back z (in-range (ready n) c (sym (after-act rec x n .0) ∙ s)) }
+  reported a c s = record { valid = said .0; information = said .1; read-as = ap (signed (2 ^ 31)) (said .1) ∙ read-back z (in-range (unstopped n) c (sym (after-act rec x n .0) ∙ s)) }
     where
       n : first T ≡ none
-      n = acts rec x .1 a
+      n = acts-exactly rec x .1 a
 
       z : ℤ
       z = residueOf o d (x .cmd) (x .sent) v
@@ -452,12 +452,12 @@ module _ (rec : List ℕ) (x : Lent) where
           go t e h = subst (Reports z) e h
 
   -- "position after it", "position there", "position and N then stand after the last put", ..: behind the objects crossed or put
-  pub placed : Acts rec x → counts o ≡ true → decodeOf (R .rec) .position ≡ placeAfter o d (x .cmd) (x .sent) v
+  pub position-after : Acts rec x → counts o ≡ true → decodeOf (R .rec) .position ≡ placeAfter o d (x .cmd) (x .sent) v
   unfolding applied acted withSense
-  placed a c = ap (λ (r : Result). decodeOf (r .rec) .position) (r .is) ∙ ap (λ (e : Drive). e .position) after ∙ act-place d (x .cmd) (x .sent) v o c
+  position-after a c = ap (λ (r : Result). decodeOf (r .rec) .position) (r .is) ∙ ap (λ (e : Drive). e .position) after ∙ act-place d (x .cmd) (x .sent) v o c
     where
-      r : Ready
-      r = ready (acts rec x .1 a)
+      r : Unstopped
+      r = unstopped (acts-exactly rec x .1 a)
 
       after : decodeOf (encodeOf (withSense (E .drive) (keptOf (E .tells)))) ≡ withSense (E .drive) (keptOf (E .tells))
       after = let w = acts-after rec x (r .well) o (r .passes) in back (E .drive) (keptOf (E .tells)) (place-small (E .drive) _ _ (w .cart)) (w .small) (kept-whole (E .tells))
@@ -495,3 +495,17 @@ module _ (rec : List ℕ) (x : Lent) where
       go : (t : Option Stop) → first T ≡ t → ValidExactly
       go none e = by-told (told-act rec x e s)
       go (some p) e = by-plain (told-test rec x p e s)
+
+  -- ".. replaces the kept sense, by empty on GOOD"
+  pub good-empty : R .answer .refusal ≡ 0 → R .answer .status ≡ 0x00 → decodeOf (R .rec) .sense ≡ emptySense
+  unfolding statusOf keptOf
+  good-empty z s = go (ended rec (x .cmd) (x .part0) (x .part1) (x .sent) (x .received))
+    where
+      go : Finished rec (x .cmd) (x .part0) (x .part1) (x .sent) (x .received) → decodeOf (R .rec) .sense ≡ emptySense
+      go (by-number n h f e) = absurd (let y : n ≡ 0 = sym (ap (λ (r : Result). r .answer .refusal) e) ∙ z in omega arith)
+      go (by-sense p f e b w q l r) = absurd (let y : _≡_ {A = ℕ} checkCondition 0x00 = sym (ap (λ (r : Result). r .answer .status) r) ∙ s in omega arith)
+      go (by-act f w q e) = let a = after-act rec x f in by (E .tells) (sym (a .0) ∙ s) (a .1)
+        where
+          by : (t : Option Sense) → statusOf t ≡ 0x00 → decodeOf (R .rec) .sense ≡ keptOf t → decodeOf (R .rec) .sense ≡ emptySense
+          by none h k = k
+          by (some y) h k = absurd (omega arith)

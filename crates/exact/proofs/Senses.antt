@@ -168,15 +168,15 @@ module _ (rec : List ℕ) (x : Lent) where
       go (inr z) = m (asc-is ∙ z)
 
   -- so a test told it
-  record Found (a : ℕ) : Type 0 where
+  record ToldAt (a : ℕ) : Type 0 where
     place : ℕ
     there : FirstAt T place
     known : Known place a
 
-  find : (a : ℕ) → a ≢ noAdditional → a ≢ invalidListField → R .answer .status ≡ checkCondition → senseAfter R .asc ≡ a → Found a
-  find a n m s e = go (first T) refl
+  told-at : (a : ℕ) → a ≢ noAdditional → a ≢ invalidListField → R .answer .status ≡ checkCondition → senseAfter R .asc ≡ a → ToldAt a
+  told-at a n m s e = go (first T) refl
     where
-      go : (t : Option Stop) → first T ≡ t → Found a
+      go : (t : Option Stop) → first T ≡ t → ToldAt a
       go none q = absurd (from-act a n m (told-act q s) e)
       go (some p) q =
           let b = told-test p q s in
@@ -211,10 +211,10 @@ module _ (rec : List ℕ) (x : Lent) where
   one-place j a n f (write-protected p e) = p ∙ ap placeOf e
 
   once : (a : ℕ) → a ≢ noAdditional → a ≢ invalidListField → a ≢ invalidField → R .answer .status ≡ checkCondition → senseAfter R .asc ≡ a → FirstAt T (placeOf a)
-  once a n m k s e = let f = find a n m s e in subst (FirstAt T) (one-place (f .place) a k (f .there) (f .known)) (f .there)
+  once a n m k s e = let f = told-at a n m s e in subst (FirstAt T) (one-place (f .place) a k (f .there) (f .known)) (f .there)
 
   twice : R .answer .status ≡ checkCondition → senseAfter R .asc ≡ invalidField → FirstAt T 4 ⊎ FirstAt T 7
-  twice s e = let f = find invalidField (λ q. omega arith) (λ q. omega arith) s e in go (f .place) (f .there) (f .known)
+  twice s e = let f = told-at invalidField (λ q. omega arith) (λ q. omega arith) s e in go (f .place) (f .there) (f .known)
     where
       go : (j : ℕ) → FirstAt T j → Known j invalidField → FirstAt T 4 ⊎ FirstAt T 7
       go j f (attention-waits p e) = absurd (by (waits (subst (FirstAt T) p f)))

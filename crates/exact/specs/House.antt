@@ -21,15 +21,15 @@ abbrev pub LentOutside : List ℕ → List ℕ → Type 0
 LentOutside p0 p1 = LengthOutside p0 ⊎ (¬ Empty p1 × LengthOutside p1)
 
 -- 5: "mount while loaded"
-abbrev pub Loaded : List ℕ → Type 0
-Loaded rec = decodeOf rec .loaded ≡ 1
+abbrev pub AlreadyLoaded : List ℕ → Type 0
+AlreadyLoaded rec = decodeOf rec .loaded ≡ 1
 
 -- "Mount tests 4 (record only), 5, then 7 for both slices, then 6.": it comes as far as each
 abbrev pub Mount5 : List ℕ → Type 0
 Mount5 rec = ¬ RecordWrong rec
 
 abbrev pub Mount7 : List ℕ → Type 0
-Mount7 rec = Mount5 rec × ¬ Loaded rec
+Mount7 rec = Mount5 rec × ¬ AlreadyLoaded rec
 
 abbrev pub Mount6 : List ℕ → List ℕ → List ℕ → Type 0
 Mount6 rec p0 p1 = Mount7 rec × ¬ LentOutside p0 p1

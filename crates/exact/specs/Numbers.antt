@@ -28,14 +28,14 @@ abbrev pub startIn : ℕ → ℕ
 startIn n = n / 2 ^ 32 % 2 ^ 32
 
 -- "SCSI status (00h or 02h)", and what three and thirty-two bits hold
-pub record Fits (a : Answer) : Type 0 where
+pub record InBits (a : Answer) : Type 0 where
   pub status : (a .status ≡ 0x00) ⊎ (a .status ≡ checkCondition)
   pub refusal : a .refusal < 8
   pub carried : a .carried < 2 ^ 32
 
 -- the returned number says the three numbers, and its bits 36 to 63 are 0
 pub record Says (n : ℕ) (a : Answer) : Type 0 where
-  pub fits : Fits a
+  pub fits : InBits a
   pub carried : carriedIn n ≡ a .carried
   pub refusal : refusalIn n ≡ a .refusal
   pub status : statusIn n ≡ a .status
