@@ -14,7 +14,7 @@ use Rattle.trailers.specs.Least.{blank64}
 use Rattle.trailers.specs.Trailers.{reflag, protect, blank}
 use Rattle.image.specs.Parts.{partOf}
 use Rattle.views.specs.Views.{viewOf}
-use Rattle.edges.specs.Cases.{bare64}
+use Rattle.edges.specs.Cases.{bare64, three}
 
 E-sound : sound E ≡ true
 unfolding E be bytes count flags directory size entry topBit low31 endAt follows ordered rightLength sound
@@ -77,3 +77,26 @@ room-before = (refl, refl)
 no-wrap : sound (replicate 48 0 ++ bytes 4 0x40000000 ++ bytes 4 0 ++ bytes 4 0x30 ++ bytes 4 0x40) ≡ false
 unfolding be bytes rightLength size flags directory count sound ordered
 no-wrap = refl
+
+-- the end is carried over a filemark: a block behind it starts there, and a filemark ends where the block before it does
+over-a-filemark : (sound (three 0x00000003 0x80000003 0x00000005) ≡ true) × (sound (three 0x00000003 0x80000003 0x00000002) ≡ false)
+    × (sound (three 0x00000003 0x80000003 0x00000003) ≡ false) × (sound (three 0x00000003 0x80000000 0x00000005) ≡ false)
+unfolding be bytes count flags directory size entry topBit low31 endAt follows ordered rightLength sound
+over-a-filemark = (refl, refl, refl, refl)
+
+-- it is the end of the entry before: not of the one after, and not the entry's own
+of-the-entry-before : (sound (three 0x00000003 0x80000005 0x80000005) ≡ false) × (sound (three 0x00000003 0x00000003 0x80000003) ≡ false)
+unfolding be bytes count flags directory size entry topBit low31 endAt follows ordered rightLength sound
+of-the-entry-before = (refl, refl)
+
+-- the first object is judged against 0, not against end(1)
+first-after-0 : (sound (three 0x80000000 0x80000000 0x00000001) ≡ true) × (sound (three 0x80000001 0x80000001 0x00000002) ≡ false)
+    × (sound (three 0x00000001 0x00000002 0x80000002) ≡ true) × (sound (three 0x80000001 0x00000002 0x80000002) ≡ false)
+    × (sound (three 0x00000000 0x00000001 0x00000002) ≡ false)
+unfolding be bytes count flags directory size entry topBit low31 endAt follows ordered rightLength sound
+first-after-0 = (refl, refl, refl, refl, refl)
+
+-- the last end may be D, and no more
+last-within : (sound (three 0x00000001 0x00000002 0x00000024) ≡ true) × (sound (three 0x00000001 0x00000002 0x00000025) ≡ false)
+unfolding be bytes count flags directory size entry topBit low31 endAt follows ordered rightLength sound
+last-within = (refl, refl)

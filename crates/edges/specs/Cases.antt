@@ -64,6 +64,10 @@ trailer n d = bytes 4 n ++ bytes 4 0 ++ bytes 4 d ++ bytes 4 64
 unfoldable pub bare64 : List ℕ
 bare64 = zeros 48 ++ trailer 0 48
 
+-- three objects, by their entries
+abbrev pub three : ℕ → ℕ → ℕ → List ℕ
+three e0 e1 e2 = zeros 36 ++ bytes 4 e2 ++ bytes 4 e1 ++ bytes 4 e0 ++ trailer 3 36
+
 -- a block of 44 sevens, which fills it
 unfoldable pub full : List ℕ
 full = replicate 44 7 ++ bytes 4 44 ++ trailer 1 44

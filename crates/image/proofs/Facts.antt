@@ -16,7 +16,7 @@ use borrow.Author.Tests.{ltb-true, leb-true, eqb-true, eqb-false, lt-ltb, le-ltb
 use Rattle.objects.specs.Object.{largestBlock}
 use Rattle.objects.specs.Room.{trailerLength, entryLength}
 use Rattle.image.specs.Image.{leastLength, mostLength, flagBits, count, flags, directory, size, entry, topBit, low31, endAt, follows, ordered, rightLength, sound, used, room, fits, filemarksBefore}
-use Rattle.image.proofs.Tests.{both, split, leb-moved}
+use Rattle.image.proofs.Tests.{both, split}
 
 -- ---- an entry's two parts
 
@@ -182,20 +182,40 @@ pub room-fits : (s : List ℕ) (n k : ℕ) → entryLength * n + endAt s n + ent
 unfolding fits room used
 room-fits s n k h = le-leb (entryLength + k) (length s - trailerLength - (entryLength * n + endAt s n)) (omega arith)
 
--- ---- as the code tests an entry
+-- ---- as the code tests an entry: what e adds to p, less the byte that a block must add, wrapped
 
-module _ (p e end : ℕ) (m : Bool) (he : end ≡ low31 e) (hm : m ≡ topBit e) where
-  pub test-filemark : m ≡ true → eqb end p ≡ follows p e
-  unfolding follows
-  test-filemark t = rw (← hm, t, he) refl
+module _ (p e more : ℕ) (hp : p < 2 ^ 31) (he : e < 2 ^ 32) (hm : more < 2 ^ 32) where
+  tested-filemark : e / 2 ^ 31 ≡ 1 → (more + p) % 2 ^ 32 ≡ low31 e → leb more 0 ≡ eqb (low31 e) p
+  unfolding low31
+  tested-filemark t w =
+      split more 1
+      (λ l. le-leb more 0 (omega arith) ∙ sym (eq-eqb (e % 2 ^ 31) p (omega arith)))
+      (λ l. lt-leb more 0 l ∙ sym (ne-eqb (e % 2 ^ 31) p (omega arith)))
 
-  pub test-short : m ≡ false → end ≤ p → false ≡ follows p e
-  unfolding follows
-  test-short t h = rw (← hm, t, ← he, le-ltb p end h) refl
+  tested-block : (more + (p + 1)) % 2 ^ 32 ≡ low31 e → leb more (largestBlock - 1) ≡ ltb p (low31 e) && leb (low31 e) (p + largestBlock)
+  unfolding low31
+  tested-block w =
+      split p (e % 2 ^ 31)
+      (λ l. rw (lt-ltb p (e % 2 ^ 31) l) (split (largestBlock - 1) more
+      (λ k. lt-leb more (largestBlock - 1) k ∙ sym (lt-leb (e % 2 ^ 31) (p + largestBlock) (omega arith)))
+      (λ k. le-leb more (largestBlock - 1) k ∙ sym (le-leb (e % 2 ^ 31) (p + largestBlock) (omega arith)))))
+      (λ l. rw (le-ltb p (e % 2 ^ 31) l) (lt-leb more (largestBlock - 1) (omega arith)))
 
-  pub test-block : m ≡ false → p < end → leb (end - p) largestBlock ≡ follows p e
-  unfolding follows
-  test-block t h = rw (← hm, t, ← he, lt-ltb p end h) (leb-moved p end largestBlock (omega arith))
+  pub tested-entry : (block end : ℕ) → block ≡ 1 - e / 2 ^ 31 → end ≡ low31 e → (more + (p + block)) % 2 ^ 32 ≡ end → leb more (block * (largestBlock - 1)) ≡ follows p e
+  unfolding follows topBit
+  tested-entry block end hb hend w = by (eqb (e / 2 ^ 31) 1) refl
+    where
+      by : (t : Bool) → eqb (e / 2 ^ 31) 1 ≡ t → leb more (block * (largestBlock - 1)) ≡ cond t (eqb (low31 e) p) (ltb p (low31 e) && leb (low31 e) (p + largestBlock))
+      by true q =
+          let one : e / 2 ^ 31 ≡ 1 = eqb-true (e / 2 ^ 31) 1 q in
+          let none : block ≡ 0 = omega arith in
+          let w₀ : (more + p) % 2 ^ 32 ≡ low31 e = omega arith in
+          rw none (tested-filemark one w₀)
+      by false q =
+          let other : e / 2 ^ 31 ≡ 1 → ⊥ = eqb-false (e / 2 ^ 31) 1 q in
+          let one : block ≡ 1 = omega arith in
+          let w₁ : (more + (p + 1)) % 2 ^ 32 ≡ low31 e = omega arith in
+          rw one (tested-block w₁)
 
 -- ---- a turn of the loop that counts filemarks
 

@@ -1,7 +1,7 @@
 -- How the code comes to its answer, test by test: the soundness of an image, its refusal, and where a block lies.
 -- Assumes nothing.
 use Prim.Native.Nat.{ℕ, suc, _+_, _-_, _*_, _/_, _^_, _<_, _≤_}
-use mathlib.Core.Bool.{Bool, true, false, cond, not}
+use mathlib.Core.Bool.{Bool, true, false, cond, not, _&&_}
 use mathlib.Core.Path.{_≡_, refl, sym, ap, ap₂, _∙_}
 use mathlib.Core.List.{List, [], _∷_}
 use native.Mathlib.Numerals.{add-one}
@@ -35,21 +35,17 @@ tested-right s r e h = right-parts s (sym e ∙ not-false r h)
 pub tested-wrong : (s : List ℕ) (r : Bool) → r ≡ rightLength s → not r ≡ true → Sound s → ⊥
 tested-wrong s r e h k = never-both (right-of s (k .least) (k .most)) (sym e ∙ not-true r h)
 
-pub tested-order : (s : List ℕ) (n : ℕ) (r : Bool) → n ≡ count s → r ≡ ordered s n → not r ≡ true → Sound s → ⊥
-tested-order s n r e f h k = never-both (k .in-order) (sym (f ∙ ap (ordered s) e) ∙ not-true r h)
-
 -- the last test, when all before it hold
-pub tested-all : (s : List ℕ) (r o : Bool) (z f d n x : ℕ)
+pub tested-all : (s : List ℕ) (r o : Bool) (z f d n : ℕ)
     → r ≡ rightLength s → not r ≡ false → z ≡ size s → z ≡ length s → f ≡ flags s → f / 2 ^ flagBits ≡ 0 → d ≡ directory s → n ≡ count s
-    → d + entryLength * n + trailerLength ≡ length s → o ≡ ordered s n → not o ≡ false → x ≡ endAt s n → leb x d ≡ sound s
+    → d + entryLength * n + trailerLength ≡ length s → o ≡ (ordered s n && leb (endAt s n) d) → o ≡ sound s
 unfolding sound
-tested-all s r o z f d n x er hr ez hz ef hf ed en hd eo ho ex =
+tested-all s r o z f d n er hr ez hz ef hf ed en hd eo =
     let right : rightLength s ≡ true = sym er ∙ not-false r hr in
     let whole : eqb (size s) (length s) ≡ true = eq-eqb (size s) (length s) (sym ez ∙ hz) in
     let known : eqb (flags s / 2 ^ flagBits) 0 ≡ true = eq-eqb (flags s / 2 ^ flagBits) 0 (ap (λ (k : ℕ). k / 2 ^ flagBits) (sym ef) ∙ hf) in
     let points : eqb (directory s + entryLength * count s + trailerLength) (length s) ≡ true = eq-eqb (directory s + entryLength * count s + trailerLength) (length s) (rw (← ed, ← en) hd) in
-    let order : ordered s (count s) ≡ true = ap (ordered s) (sym en) ∙ sym eo ∙ not-false o ho in
-    rw (right, whole, known, points, order) (ap₂ (λ (a b : ℕ). leb a b) (ex ∙ ap (endAt s) en) ed)
+    rw (right, whole, known, points) (eo ∙ ap₂ (λ (k b : ℕ). ordered s k && leb (endAt s k) b) en ed)
 
 -- ---- the refusal of an image
 

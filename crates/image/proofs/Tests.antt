@@ -1,11 +1,10 @@
 -- Tests and facts: cases on a test, the parts of a conjunction.
 -- Assumes nothing.
-use Prim.Native.Nat.{ℕ, _+_, _-_, _<_, _≤_}
+use Prim.Native.Nat.{ℕ, _<_, _≤_}
 use mathlib.Core.Bool.{Bool, true, false, _&&_}
-use mathlib.Core.Path.{_≡_, refl, sym, _∙_}
-use native.Mathlib.Omega.{arith}
-use lib.Dec.{leb, ltb}
-use borrow.Author.Tests.{ltb-true, ltb-false, le-leb, lt-leb}
+use mathlib.Core.Path.{_≡_, refl}
+use lib.Dec.{ltb}
+use borrow.Author.Tests.{ltb-true, ltb-false}
 
 pub cases : {P : Type 0} (t : Bool) → (t ≡ true → P) → (t ≡ false → P) → P
 cases true f g = f refl
@@ -17,10 +16,3 @@ split a b f g = cases (ltb a b) (λ e. f (ltb-true a b e)) (λ e. g (ltb-false a
 pub both : (a b : Bool) → a && b ≡ true → (a ≡ true) × (b ≡ true)
 both true b h = (refl, h)
 both false b h = ((cc), (cc))
-
--- a test on a difference is the one on the sum
-pub leb-moved : (p x k : ℕ) → p ≤ x → leb (x - p) k ≡ leb x (p + k)
-leb-moved p x k h =
-    split (p + k) x
-    (λ l. lt-leb (x - p) k (omega arith) ∙ sym (lt-leb x (p + k) l))
-    (λ l. le-leb (x - p) k (omega arith) ∙ sym (le-leb x (p + k) l))

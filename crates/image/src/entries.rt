@@ -20,7 +20,7 @@ pub const ENTRY: usize = 4;
 
 pub const FILEMARK: u32 = 0x8000_0000;
 
-const TOP: u32 = 31;
+pub const TOP: u32 = 31;
 
 const END: u32 = 0x7fff_ffff;
 

@@ -1,28 +1,43 @@
--- One law for each of the three returns: a filemark, a block that ends too early, a block.
+-- One comparison for filemarks and blocks alike (`tested-entry`).
 -- Assumes nothing.
+use mathlib.Core.Path.{refl}
+use native.Mathlib.Omega.{arith}
 use borrow.Author.Needs.{needs}
-use Rattle.image.proofs.Facts.{test-filemark, test-short, test-block}
+use Rattle.image.proofs.Facts.{tested-entry}
 use Rattle.image.proofs.sound.entry_follows.Statement.{statement}
 use Rattle.image.proofs.sound.entry_follows.Tie as tie
+
+sub-block : tie.Need-sub-block
+sub-block c = search needs
 
 end-of-requires : tie.Need-end-of-requires
 end-of-requires c κs = search needs
 
-marks-requires : tie.Need-marks-requires
-marks-requires c κs = search needs
+add-wrapping-sub-u32 : tie.Need-add-wrapping-sub-u32
+add-wrapping-sub-u32 c = search needs
 
-returns : tie.Need-returns
-returns c = test-filemark _ _ _ _ (c .before .before .end-of .ensures) (c .before .marks .ensures) (c .if1 .taken)
-
-returns-2 : tie.Need-returns-2
-returns-2 c = test-short _ _ _ _ (c .before .before .before .end-of .ensures) (c .before .before .marks .ensures) (c .before .if1 .left) (c .if2 .taken)
+wrapping-sub-u32-requires : tie.Need-wrapping-sub-u32-requires
+wrapping-sub-u32-requires c κs = search needs
 
 sub-result : tie.Need-sub-result
 sub-result c = search needs
 
-returns-3 : tie.Need-returns-3
-returns-3 c = test-block _ _ _ _ (c .before .before .before .end-of .ensures) (c .before .before .marks .ensures) (c .before .if1 .left) (c .if2 .left)
+mul-result : tie.Need-mul-result
+mul-result c = search needs
+
+returns : tie.Need-returns
+returns c =
+    let a = c .before .before .args in
+    tested-entry (a .p) (a .e) (c .wrapping-sub-u32 .result) (omega arith) (omega arith) (omega arith) _ _ refl (c .before .end-of .ensures) (c .wrapping-sub-u32 .ensures)
 
 pub entry-follows-spec : {M : Type 1} → statement M
 entry-follows-spec =
-    tie.close (tie.spec end-of-requires marks-requires returns returns-2 sub-result returns-3)
+    tie.close
+    (tie.spec
+    sub-block
+    end-of-requires
+    add-wrapping-sub-u32
+    wrapping-sub-u32-requires
+    sub-result
+    mul-result
+    returns)

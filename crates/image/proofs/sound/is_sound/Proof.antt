@@ -2,7 +2,7 @@
 -- Assumes nothing.
 use native.Mathlib.Omega.{arith}
 use borrow.Author.Needs.{needs}
-use Rattle.image.proofs.Judged.{unsound, tested-right, tested-wrong, tested-order, tested-all}
+use Rattle.image.proofs.Judged.{unsound, tested-right, tested-wrong, tested-all}
 use Rattle.image.specs.Image.{size, directory}
 use Rattle.image.proofs.sound.is_sound.Statement.{statement}
 use Rattle.image.proofs.sound.is_sound.Tie as tie
@@ -72,19 +72,13 @@ returns-4 : tie.Need-returns-4
 unfolding directory
 returns-4 c = unsound _ (λ k. omega (arith, k .dir-is))
 
-entries-follow-requires : tie.Need-entries-follow-requires
-entries-follow-requires c κs = search needs
+entries-within-requires : tie.Need-entries-within-requires
+entries-within-requires c κs = search needs
 
 returns-5 : tie.Need-returns-5
-returns-5 c = unsound _ (tested-order _ _ _ (c .before .before .before .count-of .ensures) (c .before .entries-follow .ensures) (c .if5 .taken))
-
-end-at-requires : tie.Need-end-at-requires
-end-at-requires c κs = search needs
-
-returns-6 : tie.Need-returns-6
 unfolding size directory
-returns-6 c =
-    tested-all _ _ _ _ _ _ _ _ (c .before .before .before .before .before .before .before .before .before .before .before .has-right-length .ensures) (c .before .before .before .before .before .before .before .before .before .before .if1 .left) (c .before .before .before .before .before .before .before .before .before .be32-at .ensures) (c .before .before .before .before .before .before .before .before .if2 .left) (c .before .before .before .before .before .before .before .flags-of .ensures) (c .before .before .before .before .before .before .if3 .left) (c .before .before .before .before .before .be32-at2 .ensures) (c .before .before .before .before .count-of .ensures) (c .before .before .before .if4 .left) (c .before .before .entries-follow .ensures) (c .before .if5 .left) (c .end-at .ensures .0)
+returns-5 c =
+    tested-all _ _ _ _ _ _ _ (c .before .before .before .before .before .before .before .before .before .has-right-length .ensures) (c .before .before .before .before .before .before .before .before .if1 .left) (c .before .before .before .before .before .before .before .be32-at .ensures) (c .before .before .before .before .before .before .if2 .left) (c .before .before .before .before .before .flags-of .ensures) (c .before .before .before .before .if3 .left) (c .before .before .before .be32-at2 .ensures) (c .before .before .count-of .ensures) (c .before .if4 .left) (c .entries-within .ensures)
 
 pub is-sound-spec : {M : Type 1} → statement M
 is-sound-spec =
@@ -107,7 +101,5 @@ is-sound-spec =
     add-if4
     add-if4-2
     returns-4
-    entries-follow-requires
-    returns-5
-    end-at-requires
-    returns-6)
+    entries-within-requires
+    returns-5)
