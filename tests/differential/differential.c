@@ -277,7 +277,7 @@ int main(int arguments, char **argument)
     reached.wanted = strtoul(argument[2], NULL, 10);
     random_state = seed;
     map_twins();
-    catch_faults();
+    catch_faults(on_fault);
     reached.with_largest = arguments == 4;
     for (unsigned round = 0; !is_over(); round++) {
         for (int sequences = 0; sequences < 8; sequences++)

@@ -66,6 +66,16 @@ static inline void print_totals(void)
     printf("seed %" PRIu64 ", %lu calls, %lu mismatches", seed, reached.calls, reached.mismatches);
 }
 
+/* Ends the run with the mismatch that was just told of. */
+static inline void cut_short(void)
+{
+    reached.mismatches++;
+    print_totals();
+    printf(", cut short by the last\n");
+    fflush(stdout);
+    _exit(1);
+}
+
 /* Whether the fault is a first store to a piece of a sparse room, by the side whose room it is. */
 static inline int may_store(const uint8_t *address)
 {
@@ -88,18 +98,14 @@ static inline void on_fault(int signal_number, siginfo_t *fault, void *context)
     for (int i = 0; i < SLICES; i++)
         if (sealed[i])
             printf("%s is lent on read-only pages\n", slice_names[i]);
-    reached.mismatches++;
-    print_totals();
-    printf(", cut short by the last\n");
-    fflush(stdout);
-    _exit(1);
+    cut_short();
 }
 
-static inline void catch_faults(void)
+static inline void catch_faults(void (*handler)(int, siginfo_t *, void *))
 {
     struct sigaction action;
     memset(&action, 0, sizeof action);
-    action.sa_sigaction = on_fault;
+    action.sa_sigaction = handler;
     action.sa_flags = SA_SIGINFO;
     sigaction(SIGSEGV, &action, NULL);
     sigaction(SIGBUS, &action, NULL);
@@ -108,6 +114,15 @@ static inline void catch_faults(void)
 }
 
 /* ---- the comparison */
+
+static inline int answer_differs(uint64_t by_library, uint64_t by_model)
+{
+    if (by_library == by_model)
+        return 0;
+    name_the_call();
+    printf("answer %016" PRIx64 "h, the model has %016" PRIx64 "h\n", by_library, by_model);
+    return 1;
+}
 
 /* The first byte of a room's part that differs, or its end. */
 static inline size_t difference_in(const struct twin *twin, size_t from, size_t to)
@@ -256,18 +271,23 @@ static inline void slip_a_store(uint64_t answer)
 
 /* ---- the call on both sides */
 
+/* Counts the call, and keeps what will be said of it if it fails. */
+static inline void begin_call(const struct call *call)
+{
+    reached.calls++;
+    latest = *call;
+    memcpy(record_before, bytes_of(RECORD, MODEL), smaller(twins[RECORD].length, sizeof record_before));
+}
+
 /* Makes the call on both sides, and compares all that a caller can see. Returns the model's answer. */
 static inline uint64_t make_call(struct call call)
 {
     uint64_t by_model, by_library;
-    size_t kept = twins[RECORD].length < sizeof record_before ? twins[RECORD].length : sizeof record_before;
     int differs;
     if (is_over())
         return 0;
-    reached.calls++;
     call.empty_is_null = (int)draw(2);
-    latest = call;
-    memcpy(record_before, bytes_of(RECORD, MODEL), kept);
+    begin_call(&call);
     close_rooms();
     running = IN_MODEL;
     by_model = invoke(MODEL, &call);
@@ -281,11 +301,7 @@ static inline uint64_t make_call(struct call call)
     running = IN_NEITHER;
     count_reached(by_model);
     unseal();
-    differs = by_library != by_model;
-    if (differs) {
-        name_the_call();
-        printf("answer %016" PRIx64 "h, the model has %016" PRIx64 "h\n", by_library, by_model);
-    }
+    differs = answer_differs(by_library, by_model);
     for (int i = 0; i < SLICES; i++)
         differs |= slice_differs((enum slice)i);
     reached.mismatches += (unsigned long)differs;
