@@ -16,28 +16,33 @@ build_test() { # SOURCE SUFFIX FLAG...
     echo "$program"
 }
 
-# Seeds each of the slips in turn; number 0 is none. Without a slip nothing may differ; with one, something must. What
-# stands before a colon in a slip is one word more for the program.
+# Seeds one slip; number 0 is none. Without a slip nothing may differ; with one, something must. What stands before a
+# colon in a slip is one word more for the program.
+run_with_slip() { # NUMBER SLIP SOURCE WORD...
+    local fault=$1 slip=$2 program said status first differ found words=("${@:4}")
+    program=$(build_test "$3" "fault-$fault" -DFAULT="$fault") || exit 2
+    [[ $slip != *:* ]] || words+=("${slip%%:*}")
+    said=$("${runner[@]}" "$program" "${words[@]}")
+    status=$?
+    first=$(grep -om 1 'call [0-9]*, ' <<<"$said")
+    differ=-1
+    [[ $said =~ \ ([0-9]+)\ mismatches ]] && differ=${BASH_REMATCH[1]}
+    if [ "$fault" -eq 0 ] && [ "$status" -eq 0 ] && [ "$differ" -eq 0 ]; then
+        found="nothing differs"
+    elif [ "$fault" -gt 0 ] && [ "$status" -eq 1 ] && [ "$differ" -gt 0 ]; then
+        found="found, first at ${first%, }"
+    else
+        found="FAILED: status $status, mismatches $differ"
+    fi
+    echo "fault $fault, $slip: $found"
+    [[ $found != FAILED* ]]
+}
+
+# Seeds each of the slips in turn, by its number among them.
 run_with_slips() { # SOURCE CALLS SLIP...
-    local source=$1 calls=$2 slips=("${@:3}") failed=0 fault program said status first differ found word
+    local source=$1 calls=$2 slips=("${@:3}") failed=0 fault
     for fault in "${!slips[@]}"; do
-        program=$(build_test "$source" "fault-$fault" -DFAULT="$fault") || exit 2
-        word=()
-        [[ ${slips[fault]} != *:* ]] || word=("${slips[fault]%%:*}")
-        said=$("${runner[@]}" "$program" 1 "$calls" "${word[@]}")
-        status=$?
-        first=$(grep -om 1 'call [0-9]*, ' <<<"$said")
-        differ=-1
-        [[ $said =~ \ ([0-9]+)\ mismatches ]] && differ=${BASH_REMATCH[1]}
-        if [ "$fault" -eq 0 ] && [ "$status" -eq 0 ] && [ "$differ" -eq 0 ]; then
-            found="nothing differs"
-        elif [ "$fault" -gt 0 ] && [ "$status" -eq 1 ] && [ "$differ" -gt 0 ]; then
-            found="found, first at ${first%, }"
-        else
-            found="FAILED: status $status, mismatches $differ"
-            failed=1
-        fi
-        echo "fault $fault, ${slips[fault]}: $found"
+        run_with_slip "$fault" "${slips[fault]}" "$source" 1 "$calls" || failed=1
     done
     return "$failed"
 }

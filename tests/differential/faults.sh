@@ -1,6 +1,7 @@
 #!/usr/bin/env bash
 # faults.sh: shows that tests/differential/differential.c can fail: the run of check finds each slip that is seeded in
-# the model, or, where a store may not go, behind the library; those marked so, the run with the largest work.
+# the model, or, where a store may not go, behind the library; those marked so, the run with the largest work. The slips
+# of the directory's check are shown to tests/differential/damage.c too, and some to it alone.
 # LIBRARY names another archive than the one that is built here from the sources.
 set -u
 cd "$(dirname "$0")/../.." || exit 2
@@ -41,4 +42,23 @@ slips=(
     "largest: bytes carried cut to 29 bits"
     "largest: LONG zeroes at most 2^29 bytes"
 )
-run_with_slips tests/differential/differential.c 500000 "${slips[@]}"
+# Slips of the check of a directory.
+directory=${#slips[@]}
+slips+=(
+    "the end carried over a filemark is 0"
+    "an entry judged by the end of the entry after it"
+    "the first object judged by end(1)"
+)
+failed=0
+run_with_slips tests/differential/differential.c 500000 "${slips[@]}" || failed=1
+
+# The random work damages no directory that is long enough for these.
+slips+=(
+    "the first of every 32 entries not judged, but for the very first"
+    "the entries behind the last whole 32 not judged"
+)
+echo "on damaged directories"
+for fault in 0 $(seq "$directory" $((${#slips[@]} - 1))); do
+    run_with_slip "$fault" "${slips[fault]}" tests/differential/damage.c 1 || failed=1
+done
+exit "$failed"

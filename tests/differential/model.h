@@ -77,6 +77,33 @@ static inline uint64_t entry_at(uint64_t length, uint64_t object)
     return length - TRAILER - ENTRY * (object + 1);
 }
 
+static inline uint32_t end_in_entry(const uint8_t *image, uint64_t length, uint64_t object)
+{
+    return get32(image + entry_at(length, object)) & ENTRY_END;
+}
+
+/* The end that an entry is judged by, which is the one before it. The slips of a wrong carry have another. */
+static inline uint32_t carried_to(uint64_t object, uint32_t end, const struct tape *tape, const uint8_t *image,
+                                  uint64_t count)
+{
+    if (FAULT == 33 && object > 0 && tape->objects[object - 1].is_filemark)
+        return 0;
+    if (FAULT == 34 && object + 1 < count)
+        return end_in_entry(image, tape->length, object + 1);
+    if (FAULT == 35 && object == 0)
+        return end_in_entry(image, tape->length, 0);
+    return end;
+}
+
+/* The slips of a loop that takes so many entries at a time: whether one is not judged. */
+static inline int is_passed_by(uint64_t object, uint64_t count)
+{
+    enum { AT_A_TIME = 32 };
+    if (FAULT == 36)
+        return object > 0 && object % AT_A_TIME == 0;
+    return FAULT == 37 && object >= AT_A_TIME && object >= count - count % AT_A_TIME;
+}
+
 /* Whether the image is sound; its objects are known only then. */
 static inline int decode(struct tape *tape, const uint8_t *image, uint64_t length)
 {
@@ -98,8 +125,9 @@ static inline int decode(struct tape *tape, const uint8_t *image, uint64_t lengt
     for (uint64_t i = 0; i < count; i++) {
         uint32_t entry = get32(image + entry_at(length, i));
         struct object object = {end, entry & ENTRY_END, (entry & ENTRY_FILEMARK) != 0};
-        int64_t size = (int64_t)object.end - (int64_t)object.start;
-        if (object.is_filemark ? size != 0 : size < 1 || size > LARGEST_BLOCK)
+        int64_t size = (int64_t)object.end - (int64_t)carried_to(i, end, tape, image, count);
+        int follows = object.is_filemark ? size == 0 : size >= 1 && size <= LARGEST_BLOCK;
+        if (!follows && !is_passed_by(i, count))
             return 0;
         tape->objects[i] = object;
         end = object.end;

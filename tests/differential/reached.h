@@ -57,8 +57,7 @@ static inline uint32_t told_in(const uint8_t *record)
 
 static inline uint64_t end_in(enum slice slice, uint64_t n)
 {
-    const uint8_t *image = bytes_of(slice, MODEL);
-    return n == 0 ? 0 : get32(image + entry_at(twins[slice].length, n - 1)) & ENTRY_END;
+    return n == 0 ? 0 : end_in_entry(bytes_of(slice, MODEL), twins[slice].length, n - 1);
 }
 
 static inline uint64_t room_in(enum slice slice, uint64_t n)
