@@ -1,7 +1,8 @@
-/* services.c: blank, protect and view held to document 01, called as a C daemon calls them. */
+/* services.c: blank, protect, view and the judging of images held to document 01, called as a C daemon calls them. */
 #define _DEFAULT_SOURCE
-#include "image.h"
+#include "blocks.h"
 #include "lend.h"
+#include "record.h"
 #include "stormtoggle.h"
 
 /* ---- blank */
@@ -42,7 +43,7 @@ static void blank_of_objects(void)
     take_back(image, sizeof want);
 }
 
-/* ---- protect and view, by the oracle */
+/* ---- soundness, by the oracle */
 
 static void protect_agrees(const uint8_t *image, size_t length, uint64_t on, const char *what)
 {
@@ -74,11 +75,36 @@ static void agrees(const uint8_t *image, size_t length, const char *what)
         view_agrees(image, length, object, what);
 }
 
+/* A fresh drive mounts the image, or refuses it by number 6. A loaded one with nothing to tell is ready with it, or
+ * refuses it by number 4, and its record stays in both cases. */
+static void drive_judges(const uint8_t *image, size_t length, int is_sound, const char *what)
+{
+    static const struct bytes ready = SIX(TEST_UNIT_READY, 0, 0);
+    struct drive fresh = fresh_drive(), loaded = mounted_drive(1);
+    uint8_t want[RECORD_BYTES] = {0}, *record = lend(want, RECORD_BYTES), *lent = lend(image, length);
+    uint64_t answer;
+    lay_drive(record, &fresh);
+    lay_drive(want, is_sound ? &loaded : &fresh);
+    answer = stormtoggle_mount(record, RECORD_BYTES, lent, length, NULL, 0);
+    expect_equal(answer, REFUSED(is_sound ? 0 : BY_UNSOUND), "mount, %s", what);
+    expect_bytes(record, want, RECORD_BYTES, "record after mount, %s", what);
+    loaded.attention = ATTENTION_NONE;
+    lay_drive(record, &loaded);
+    lay_drive(want, &loaded);
+    answer = stormtoggle_command(record, RECORD_BYTES, ready.at, ready.length, lent, length, NULL, 0, NULL, 0, NULL, 0);
+    expect_equal(answer, REFUSED(is_sound ? 0 : BY_DRIVE), "TEST UNIT READY, %s", what);
+    expect_bytes(record, want, RECORD_BYTES, "record after TEST UNIT READY, %s", what);
+    expect_bytes(lent, image, length, "bytes after mount and TEST UNIT READY, %s", what);
+    take_back(record, RECORD_BYTES);
+    take_back(lent, length);
+}
+
 /* Rows whose soundness is known without the oracle, which is held to them too. */
 static void judged(const uint8_t *image, size_t length, int is_sound, const char *what)
 {
     expect(sound(image, length) == is_sound, "the oracle, %s", what);
     agrees(image, length, what);
+    drive_judges(image, length, is_sound, what);
 }
 
 /* The trailer of E as 01 prints it, and others in its place. */
@@ -159,6 +185,21 @@ static void directories(void)
         {"end(2) is D", SHORTEST, 2, {40, ENTRY_FILEMARK | 40}, 1},
         {"end(2) above D", SHORTEST, 2, {41, ENTRY_FILEMARK | 41}, 0},
         {"block end with 31 bits", SHORTEST, 1, {ENTRY_END}, 0},
+        /* The end before an object is that of the object before it, be this a block or a filemark: not 0, not one
+         * further back, not the object's own or a later one. Before the first object it is 0, and nothing else. */
+        {"block from a filemark's end", SHORTEST, 3, {3, ENTRY_FILEMARK | 3, 5}, 1},
+        {"block that ends before the filemark before it", SHORTEST, 3, {3, ENTRY_FILEMARK | 3, 2}, 0},
+        {"block of 0 after a filemark", SHORTEST, 3, {3, ENTRY_FILEMARK | 3, 3}, 0},
+        {"filemark at 0 between blocks", SHORTEST, 3, {3, ENTRY_FILEMARK, 5}, 0},
+        {"filemark with the end of the one after it", SHORTEST, 3, {3, ENTRY_FILEMARK | 5, ENTRY_FILEMARK | 5}, 0},
+        {"block of 0 between a block and its filemark", SHORTEST, 3, {3, 3, ENTRY_FILEMARK | 3}, 0},
+        {"two filemarks at 0, then a block", SHORTEST, 3, {ENTRY_FILEMARK, ENTRY_FILEMARK, 1}, 1},
+        {"two filemarks at 1 with no data, then a block", SHORTEST, 3, {ENTRY_FILEMARK | 1, ENTRY_FILEMARK | 1, 2}, 0},
+        {"two blocks, then a filemark", SHORTEST, 3, {1, 2, ENTRY_FILEMARK | 2}, 1},
+        {"first of two blocks made a filemark", SHORTEST, 3, {ENTRY_FILEMARK | 1, 2, ENTRY_FILEMARK | 2}, 0},
+        {"end(3) is D", SHORTEST, 3, {1, 2, 36}, 1},
+        {"end(3) above D", SHORTEST, 3, {1, 2, 37}, 0},
+        {"block of 0 before others", SHORTEST, 3, {0, 1, 2}, 0},
     };
     for (size_t i = 0; i < COUNT(rows); i++) {
         uint8_t *image = patterned(rows[i].length);
