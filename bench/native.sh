@@ -1,8 +1,21 @@
-# native.sh: sourced by bench/run. On a machine that is not x86-64 it compiles the library's own module for this one, so
-# that the proved code is timed natively: the toolchain's compiler is called through a wrapper that keeps the module
-# it is handed.
+# native.sh: sourced by bench/run and bench/loads. Makes the library that this machine runs: on x86-64 the archive
+# itself, elsewhere the library's own module compiled for the machine at hand, so that the proved code is measured
+# natively.
 # shellcheck shell=bash
+. tests/progress.sh
 
+library=target/staticlib/libstormtoggle.a
+[ "$(uname -m)" = x86_64 ] || library=target/bench/stormtoggle.o
+
+native_library() {
+    mkdir -p target/bench
+    # The C programs must be this machine's own.
+    command -v cc >/dev/null || install_packages gcc libc6-dev || return
+    library_shown target/bench || return
+    [ "$(uname -m)" = x86_64 ] || native_object "$library"
+}
+
+# The toolchain's compiler is called through a wrapper that keeps the module it is handed.
 native_object() { # OUTPUT
     local kit on out=target/bench/native
     kit=$(dirname "$(dirname "$(readlink -f "$(command -v rt)")")")

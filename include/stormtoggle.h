@@ -7,7 +7,8 @@
  * Beyond that, bytes, lengths and numbers may have any value: what is wrong is refused by number, and a refused call
  * changes no byte. A partition that a call only reads, that is not the current one, or whose call is refused or ends in
  * a test gets no store at all, so it may be mapped read-only. (A WRITE or an ERASE that finds just its bytes there
- * already may store them again.)
+ * already may store them again.) A call that judges a partition, as all but fresh and blank do, goes over its directory
+ * once and loads each byte of it once, four for an object; some entries are then read again to act on.
  */
 #ifndef STORMTOGGLE_H
 #define STORMTOGGLE_H

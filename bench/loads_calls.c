@@ -1,0 +1,86 @@
+/* loads_calls.c: some calls, each with cartridges of its own from which nothing else loads, for bench/loads to trace.
+ * Prints where each directory that was lent lies. */
+#include "images.h"
+#include <stdio.h>
+
+enum { SPARE = 64, EVERY_16TH = 16 };
+
+/* What a call is lent: a copy at a place of its own, which stays there so that no later call has the same. */
+static struct image lent(const struct image *image)
+{
+    struct image copy = {malloc(image->length), image->length};
+    if (copy.at == NULL)
+        abort();
+    memcpy(copy.at, image->at, image->length);
+    return copy;
+}
+
+static struct image make_lent(uint32_t objects, struct image *made)
+{
+    *made = make_image(objects, 1, EVERY_16TH, SPARE);
+    return lent(made);
+}
+
+static void tell(const char *name, uint32_t objects, const struct image *image)
+{
+    printf("%p %u %s\n", (void *)(image->at + image->length - TRAILER - (size_t)ENTRY * objects), objects, name);
+}
+
+static const struct image none;
+
+/* A command on one partition, in the middle of so many objects. */
+static void call_command(const char *name, uint32_t objects, const uint8_t *block, size_t length)
+{
+    static uint8_t data[LONG_BYTES];
+    struct image made, image = make_lent(objects, &made);
+    mount(&made, &none);
+    put_position(objects / 2);
+    if (stormtoggle_command(record, RECORD_BYTES, block, length, image.at, image.length, NULL, 0, data, sizeof data,
+                            data, sizeof data) >> ANSWER_REFUSAL != 0)
+        abort();
+    tell(name, objects, &image);
+}
+
+static void call_with_two_partitions(const uint8_t *block, size_t length, uint32_t objects_0, uint32_t objects_1)
+{
+    struct image made_0, made_1, p0 = make_lent(objects_0, &made_0), p1 = make_lent(objects_1, &made_1);
+    mount(&made_0, &made_1);
+    if (stormtoggle_command(record, RECORD_BYTES, block, length, p0.at, p0.length, p1.at, p1.length, NULL, 0, NULL,
+                            0) != 0)
+        abort();
+    tell("TEST UNIT READY, partition 0 of two", objects_0, &p0);
+    tell("TEST UNIT READY, partition 1 of two", objects_1, &p1);
+}
+
+static void call_services(uint32_t objects)
+{
+    struct image made, mounted = make_lent(objects, &made), guarded = lent(&made), viewed = lent(&made);
+    mount(&mounted, &none);
+    tell("mount", objects, &mounted);
+    if (stormtoggle_protect(guarded.at, guarded.length, 1) != 0)
+        abort();
+    tell("protect", objects, &guarded);
+    if (stormtoggle_view(viewed.at, viewed.length, NULL, 0, 0, objects / 2) == 0)
+        abort();
+    tell("view", objects, &viewed);
+}
+
+int main(void)
+{
+    static const uint8_t ready[BYTES_6] = {TEST_UNIT_READY}, rewinding[BYTES_6] = {REWIND};
+    static const uint8_t position[BYTES_10] = {READ_POSITION};
+    static const uint8_t locating[BYTES_10] = {[0] = LOCATE, [AT_OBJECT + 3] = 200};
+    static const uint8_t reading[BYTES_6] = {READ, 0, 0, 0, 1}, writing[BYTES_6] = {WRITE, 0, 0, 0, 1};
+    static const uint32_t sizes[] = {1, 3, 4, 7, 8, 9, 15, 16, 17, 31, 32, 33, 1000, 20000};
+    enum { MANY = 20000, FEW = 333 };
+    for (size_t i = 0; i < sizeof sizes / sizeof *sizes; i++)
+        call_command("TEST UNIT READY", sizes[i], ready, sizeof ready);
+    call_with_two_partitions(ready, sizeof ready, MANY, FEW);
+    call_command("REWIND", MANY, rewinding, sizeof rewinding);
+    call_command("LOCATE", MANY, locating, sizeof locating);
+    call_command("READ POSITION", MANY, position, sizeof position);
+    call_command("READ", MANY, reading, sizeof reading);
+    call_command("WRITE", MANY, writing, sizeof writing);
+    call_services(MANY);
+    return 0;
+}
