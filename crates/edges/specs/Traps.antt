@@ -12,7 +12,7 @@ use Rattle.trailers.specs.Trailers.{protect}
 use Rattle.image.specs.Example.{E}
 use Rattle.commands.specs.Call.{Lent, lent, Result, result, commandCall}
 use Rattle.codes.specs.Six.{six}
-use Rattle.edges.specs.Cases.{sense18, nothingKept, trailer, full, ten, locate}
+use Rattle.edges.specs.Cases.{sense18, nothingKept, trailer, three, full, ten, locate}
 
 pub record Trap : Type 0 where
   pub rec : List ℕ
@@ -115,6 +115,11 @@ traps =
     refuses 4 ((1 ∷ 2 ∷ 0 ∷ 0 ∷ []) ++ bytes 4 0 ++ bytes 4 0 ++ nothingKept) (six 0x08 0 5) E (zeros 64) ∷
     refuses 4 (loaded 0 0 0 nothingKept) (six 0x00 0 0) E E ∷
     refuses 4 (loaded 0 3 0 nothingKept) (six 0x00 0 0) E [] ∷
+    -- Q-5: an entry is judged from the end before it, which is carried over a filemark; not from its own, and the first not from end(1)
+    turns (loaded 0 0 0 nothingKept) (six 0x00 0 0) (three 0x00000003 0x80000003 0x00000005) (goodAnswer 0) (loaded 0 0 0 nothingKept) ∷
+    refuses 4 (loaded 0 0 0 nothingKept) (six 0x00 0 0) (three 0x00000003 0x80000003 0x00000002) [] ∷
+    refuses 4 (loaded 0 0 0 nothingKept) (six 0x00 0 0) (three 0x00000003 0x00000003 0x80000003) [] ∷
+    refuses 4 (loaded 0 0 0 nothingKept) (six 0x00 0 0) (three 0x80000001 0x00000002 0x80000002) [] ∷
     -- REQUEST SENSE with a bad field leaves the attention waiting
     turns (bare 0x29 0 nothingKept) (0x03 ∷ 0 ∷ 1 ∷ 0 ∷ 18 ∷ 0 ∷ []) [] (check 0) (bare 0x29 0 (plain 5 0x24 0)) ∷
     -- the mode data's length does not count itself; protected shows
