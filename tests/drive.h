@@ -9,8 +9,12 @@
 
 /* ---- the cartridges */
 
-/* Objects are words: bK is a block of K bytes, B the largest there is, f a filemark, fK is K of them. */
-enum cartridge { NONE, E, GUARDED, BLANK, BLANK_65, TEN, FULL, MIXED, BIG, UNSOUND };
+/* Objects are words: bK is a block of K bytes, B the largest there is, f a filemark, fK is K of them. Behind @K they go
+ * on from byte K, wherever the last one ended. All cartridges before UNSOUND are sound, and none from it on. */
+enum cartridge {
+    NONE, E, GUARDED, BLANK, BLANK_65, TEN, FULL, MIXED, PARTED, BIG,
+    UNSOUND, OVERLAPPING, BLOCK_OF_0, FILEMARK_AT_1, FILEMARKS_AT_5
+};
 
 /* Free bytes are not 0, so that a byte that is zeroed or moved shows; E alone is the document's, byte by byte. */
 static const struct tape {
@@ -27,8 +31,13 @@ static const struct tape {
     [TEN] = {SHORTEST, 0, 0xee, "b10"},
     [FULL] = {SHORTEST, 0, 0xee, "b44"},
     [MIXED] = {96, 0, 0xee, "b3 f b3 b3 b5 f b3"},
+    [PARTED] = {SHORTEST, 0, 0xee, "b3 f b2"},
     [BIG] = {2 * LARGEST_BLOCK + SHORTEST, 0, 0xee, "B"},
     [UNSOUND] = {E_BYTES, 2 * FLAG_PROTECTED, 0x00, "b3 f"},
+    [OVERLAPPING] = {SHORTEST, 0, 0xee, "b3 f @0 b2"},
+    [BLOCK_OF_0] = {SHORTEST, 0, 0xee, "b3 b0 f"},
+    [FILEMARK_AT_1] = {SHORTEST, 0, 0xee, "@1 f b1 f"},
+    [FILEMARKS_AT_5] = {SHORTEST, 0, 0xee, "@5 f3"},
 };
 
 /* Puts objects from a number on; blocks take the source's bytes one after the other, or bytes by their own number. */
@@ -37,7 +46,9 @@ static inline void put_objects(uint8_t *image, size_t length, size_t number, con
     size_t end = end_at(image, length, number);
     for (const char *word = words; *word != '\0'; word += strspn(word, " ")) {
         size_t count = *word == 'B' ? LARGEST_BLOCK : strtoul(word + 1, NULL, 10);
-        if (*word == 'b' || *word == 'B') {
+        if (*word == '@') {
+            end = count;
+        } else if (*word == 'b' || *word == 'B') {
             for (size_t i = 0; i < count; i++)
                 image[end + i] = source != NULL ? *source++ : (uint8_t)(16 * number + i + 1);
             end += count;

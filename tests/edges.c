@@ -150,13 +150,13 @@ static void one_life(void)
     take_back(record, RECORD_BYTES);
 }
 
-/* The cases' E is the document's, and all cartridges but one are sound. */
+/* The cases' E is the document's, and exactly the cartridges before UNSOUND are sound. */
 static void cartridges(void)
 {
     for (enum cartridge cartridge = E; cartridge < COUNT(tapes); cartridge++) {
         struct call call;
         make_tape(&call, PARTITION_0, cartridge);
-        expect(sound(call.before[PARTITION_0], call.length[PARTITION_0]) == (cartridge != UNSOUND),
+        expect(sound(call.before[PARTITION_0], call.length[PARTITION_0]) == (cartridge < UNSOUND),
                "the cases' cartridge %d", (int)cartridge);
         if (cartridge == E)
             expect_bytes(call.before[PARTITION_0], example_e, sizeof example_e, "the cases' E");

@@ -53,6 +53,19 @@ static const struct edge records[] = {
     {"an unsound partition", UNSOUND, SIX(REQUEST_SENSE, 0, SENSE_BYTES), AT(0), .room = SENSE_BYTES,
      .refusal = BY_DRIVE},
     {"an unsound partition that is not current", E, SIX(READ, 0, 5), TWO(0, 0), .p1 = UNSOUND, .refusal = BY_DRIVE},
+    /* An object is judged from the end before it, be this a block's or a filemark's, and the first from 0. Were the end
+     * forgotten at a filemark, the second of these would pass; were it one further back, the third; were the first
+     * object judged from its own, the fourth. Were all judged from their own, or from that of the object after, the
+     * fifth would pass, and the first would not. */
+    {"a block from a filemark's end", PARTED, SIX(TEST_UNIT_READY, 0, 0), AT(0), .after = AT(0)},
+    {"a block that ends before the filemark before it", OVERLAPPING, SIX(TEST_UNIT_READY, 0, 0), AT(0),
+     .refusal = BY_DRIVE},
+    {"a block of 0 between a block and a filemark", BLOCK_OF_0, SIX(TEST_UNIT_READY, 0, 0), AT(0),
+     .refusal = BY_DRIVE},
+    {"a filemark at 1, where the first starts at 0", FILEMARK_AT_1, SIX(TEST_UNIT_READY, 0, 0), AT(0),
+     .refusal = BY_DRIVE},
+    {"filemarks that agree with each other alone", FILEMARKS_AT_5, SIX(TEST_UNIT_READY, 0, 0), AT(0),
+     .refusal = BY_DRIVE},
     {"a second partition where there is one", E, SIX(TEST_UNIT_READY, 0, 0), AT(0), .p1 = E, .refusal = BY_DRIVE},
     {"no second partition where there are two", E, SIX(TEST_UNIT_READY, 0, 0), TWO(0, 0), .refusal = BY_DRIVE},
     {"no first partition", NONE, SIX(TEST_UNIT_READY, 0, 0), AT(0), .refusal = BY_DRIVE},

@@ -192,6 +192,8 @@ static void directories(void)
         {"block of 0 after a filemark", SHORTEST, 3, {3, ENTRY_FILEMARK | 3, 3}, 0},
         {"filemark at 0 between blocks", SHORTEST, 3, {3, ENTRY_FILEMARK, 5}, 0},
         {"filemark with the end of the one after it", SHORTEST, 3, {3, ENTRY_FILEMARK | 5, ENTRY_FILEMARK | 5}, 0},
+        {"filemarks that agree with each other alone", SHORTEST, 3,
+         {ENTRY_FILEMARK | 5, ENTRY_FILEMARK | 5, ENTRY_FILEMARK | 5}, 0},
         {"block of 0 between a block and its filemark", SHORTEST, 3, {3, 3, ENTRY_FILEMARK | 3}, 0},
         {"two filemarks at 0, then a block", SHORTEST, 3, {ENTRY_FILEMARK, ENTRY_FILEMARK, 1}, 1},
         {"two filemarks at 1 with no data, then a block", SHORTEST, 3, {ENTRY_FILEMARK | 1, ENTRY_FILEMARK | 1, 2}, 0},

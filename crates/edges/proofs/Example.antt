@@ -84,10 +84,11 @@ over-a-filemark : (sound (three 0x00000003 0x80000003 0x00000005) ≡ true) × (
 unfolding be bytes count flags directory size entry topBit low31 endAt follows ordered rightLength sound
 over-a-filemark = (refl, refl, refl, refl)
 
--- it is the end of the entry before: not of the one after, and not the entry's own
-of-the-entry-before : (sound (three 0x00000003 0x80000005 0x80000005) ≡ false) × (sound (three 0x00000003 0x00000003 0x80000003) ≡ false)
+-- it is the end of the entry before: not the entry's own nor that of the one after, with which these filemarks agree, nor one further back
+of-the-entry-before : (sound (three 0x80000005 0x80000005 0x80000005) ≡ false) × (sound (three 0x00000003 0x80000005 0x80000005) ≡ false)
+    × (sound (three 0x00000003 0x00000003 0x80000003) ≡ false)
 unfolding be bytes count flags directory size entry topBit low31 endAt follows ordered rightLength sound
-of-the-entry-before = (refl, refl)
+of-the-entry-before = (refl, refl, refl)
 
 -- the first object is judged against 0, not against end(1)
 first-after-0 : (sound (three 0x80000000 0x80000000 0x00000001) ≡ true) × (sound (three 0x80000001 0x80000001 0x00000002) ≡ false)

@@ -40,4 +40,4 @@ unfolding Traps traps full guarded ten E be bytes over signed wrapped bytesIn fi
     fixedOf siliOf transferOf spaceCodeOf spaceCountOf longOf changesPartition objectOf partitionOf loadOf formOf dbdOf pageOf pfOf allocationOf
     first runOf blocksOf marksOf fitting putFrom hidden readVariable runTells reading offered goesDown wrote writing marking spaceTells movement spacing targetOf locateTells locating selecting replyOf act eventsOf
     bytesAsked fieldError taken replyLength needed tests statusOf keptOf stopped acted unless step looksAt seenOf seen inserted laidOut applied stepOf called commandCall protect reflag blockLimits modeData listLengthKnown headerRight descriptorRight listRight shortPosition longPosition unloaded loadedAnew
-trapped = (refl, (refl, (refl, (refl, (refl, (refl, (refl, (refl, (refl, (refl, (refl, (refl, (refl, (refl, (refl, (refl, (refl, (refl, (refl, (refl, (refl, (refl, (refl, (refl, (refl, (refl, (refl, (refl, (refl, (refl, (refl, (refl, (refl, (refl, (refl, (refl, (refl, (refl, (refl, (refl, (refl, (refl, (refl, (refl, (refl, tt)))))))))))))))))))))))))))))))))))))))))))))
+trapped = (refl, (refl, (refl, (refl, (refl, (refl, (refl, (refl, (refl, (refl, (refl, (refl, (refl, (refl, (refl, (refl, (refl, (refl, (refl, (refl, (refl, (refl, (refl, (refl, (refl, (refl, (refl, (refl, (refl, (refl, (refl, (refl, (refl, (refl, (refl, (refl, (refl, (refl, (refl, (refl, (refl, (refl, (refl, (refl, (refl, (refl, tt))))))))))))))))))))))))))))))))))))))))))))))

@@ -115,11 +115,13 @@ traps =
     refuses 4 ((1 ∷ 2 ∷ 0 ∷ 0 ∷ []) ++ bytes 4 0 ++ bytes 4 0 ++ nothingKept) (six 0x08 0 5) E (zeros 64) ∷
     refuses 4 (loaded 0 0 0 nothingKept) (six 0x00 0 0) E E ∷
     refuses 4 (loaded 0 3 0 nothingKept) (six 0x00 0 0) E [] ∷
-    -- Q-5: an entry is judged from the end before it, which is carried over a filemark; not from its own, and the first not from end(1)
+    -- Q-5: an entry is judged from the end before it, which is carried over a filemark: not from 0 behind one, not from the end one further
+    -- back, the first not from end(1), and none from its own or that of the entry after
     turns (loaded 0 0 0 nothingKept) (six 0x00 0 0) (three 0x00000003 0x80000003 0x00000005) (goodAnswer 0) (loaded 0 0 0 nothingKept) ∷
     refuses 4 (loaded 0 0 0 nothingKept) (six 0x00 0 0) (three 0x00000003 0x80000003 0x00000002) [] ∷
     refuses 4 (loaded 0 0 0 nothingKept) (six 0x00 0 0) (three 0x00000003 0x00000003 0x80000003) [] ∷
     refuses 4 (loaded 0 0 0 nothingKept) (six 0x00 0 0) (three 0x80000001 0x00000002 0x80000002) [] ∷
+    refuses 4 (loaded 0 0 0 nothingKept) (six 0x00 0 0) (three 0x80000005 0x80000005 0x80000005) [] ∷
     -- REQUEST SENSE with a bad field leaves the attention waiting
     turns (bare 0x29 0 nothingKept) (0x03 ∷ 0 ∷ 1 ∷ 0 ∷ 18 ∷ 0 ∷ []) [] (check 0) (bare 0x29 0 (plain 5 0x24 0)) ∷
     -- the mode data's length does not count itself; protected shows
