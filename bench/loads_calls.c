@@ -1,9 +1,12 @@
 /* loads_calls.c: some calls, each with cartridges of its own from which nothing else loads, for bench/loads to trace.
- * Prints where each directory that was lent lies. */
+ * Prints where each directory that was lent lies, and how many entries the call may load again to act on them. */
 #include "images.h"
 #include <stdio.h>
 
 enum { SPARE = 64, EVERY_16TH = 16 };
+
+/* Entries that are looked at to act on them: those of an object and of the one before it, its end or its kind. */
+enum again { NONE_AGAIN = 0, SOME_AGAIN = 4 };
 
 /* What a call is lent: a copy at a place of its own, which stays there so that no later call has the same. */
 static struct image lent(const struct image *image)
@@ -21,15 +24,16 @@ static struct image make_lent(uint32_t objects, struct image *made)
     return lent(made);
 }
 
-static void tell(const char *name, uint32_t objects, const struct image *image)
+static void tell(const char *name, enum again again, uint32_t objects, const struct image *image)
 {
-    printf("%p %u %s\n", (void *)(image->at + image->length - TRAILER - (size_t)ENTRY * objects), objects, name);
+    const uint8_t *directory = image->at + image->length - TRAILER - (size_t)ENTRY * objects;
+    printf("%p %u %d %s\n", (const void *)directory, objects, (int)again, name);
 }
 
 static const struct image none;
 
 /* A command on one partition, in the middle of so many objects. */
-static void call_command(const char *name, uint32_t objects, const uint8_t *block, size_t length)
+static void call_command(const char *name, enum again again, uint32_t objects, const uint8_t *block, size_t length)
 {
     static uint8_t data[LONG_BYTES];
     struct image made, image = make_lent(objects, &made);
@@ -38,7 +42,7 @@ static void call_command(const char *name, uint32_t objects, const uint8_t *bloc
     if (stormtoggle_command(record, RECORD_BYTES, block, length, image.at, image.length, NULL, 0, data, sizeof data,
                             data, sizeof data) >> ANSWER_REFUSAL != 0)
         abort();
-    tell(name, objects, &image);
+    tell(name, again, objects, &image);
 }
 
 static void call_with_two_partitions(const uint8_t *block, size_t length, uint32_t objects_0, uint32_t objects_1)
@@ -48,21 +52,21 @@ static void call_with_two_partitions(const uint8_t *block, size_t length, uint32
     if (stormtoggle_command(record, RECORD_BYTES, block, length, p0.at, p0.length, p1.at, p1.length, NULL, 0, NULL,
                             0) != 0)
         abort();
-    tell("TEST UNIT READY, partition 0 of two", objects_0, &p0);
-    tell("TEST UNIT READY, partition 1 of two", objects_1, &p1);
+    tell("TEST UNIT READY, partition 0 of two", NONE_AGAIN, objects_0, &p0);
+    tell("TEST UNIT READY, partition 1 of two", NONE_AGAIN, objects_1, &p1);
 }
 
 static void call_services(uint32_t objects)
 {
     struct image made, mounted = make_lent(objects, &made), guarded = lent(&made), viewed = lent(&made);
     mount(&mounted, &none);
-    tell("mount", objects, &mounted);
+    tell("mount", NONE_AGAIN, objects, &mounted);
     if (stormtoggle_protect(guarded.at, guarded.length, 1) != 0)
         abort();
-    tell("protect", objects, &guarded);
+    tell("protect", NONE_AGAIN, objects, &guarded);
     if (stormtoggle_view(viewed.at, viewed.length, NULL, 0, 0, objects / 2) == 0)
         abort();
-    tell("view", objects, &viewed);
+    tell("view", SOME_AGAIN, objects, &viewed);
 }
 
 int main(void)
@@ -74,13 +78,13 @@ int main(void)
     static const uint32_t sizes[] = {1, 3, 4, 7, 8, 9, 15, 16, 17, 31, 32, 33, 1000, 20000};
     enum { MANY = 20000, FEW = 333 };
     for (size_t i = 0; i < sizeof sizes / sizeof *sizes; i++)
-        call_command("TEST UNIT READY", sizes[i], ready, sizeof ready);
+        call_command("TEST UNIT READY", NONE_AGAIN, sizes[i], ready, sizeof ready);
     call_with_two_partitions(ready, sizeof ready, MANY, FEW);
-    call_command("REWIND", MANY, rewinding, sizeof rewinding);
-    call_command("LOCATE", MANY, locating, sizeof locating);
-    call_command("READ POSITION", MANY, position, sizeof position);
-    call_command("READ", MANY, reading, sizeof reading);
-    call_command("WRITE", MANY, writing, sizeof writing);
+    call_command("REWIND", NONE_AGAIN, MANY, rewinding, sizeof rewinding);
+    call_command("LOCATE", NONE_AGAIN, MANY, locating, sizeof locating);
+    call_command("READ POSITION", SOME_AGAIN, MANY, position, sizeof position);
+    call_command("READ", SOME_AGAIN, MANY, reading, sizeof reading);
+    call_command("WRITE", SOME_AGAIN, MANY, writing, sizeof writing);
     call_services(MANY);
     return 0;
 }
