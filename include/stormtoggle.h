@@ -8,7 +8,7 @@
  * changes no byte. A partition that a call only reads, that is not the current one, or whose call is refused or ends in
  * a test gets no store at all, so it may be mapped read-only. (A WRITE or an ERASE that finds just its bytes there
  * already may store them again.) A call that judges a partition, as all but fresh and blank do, goes over its directory
- * once and loads each byte of it once, four for an object; some entries are then read again to act on.
+ * at most once, and so loads each byte of it once, four for an object; entries that it acts on are then read again.
  */
 #ifndef STORMTOGGLE_H
 #define STORMTOGGLE_H
