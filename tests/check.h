@@ -116,6 +116,17 @@ static inline void put32(uint8_t *at, uint32_t value)
     at[3] = (uint8_t)value;
 }
 
+static inline uint64_t get64(const uint8_t *at)
+{
+    return (uint64_t)get32(at) << 32 | get32(at + 4);
+}
+
+static inline void put64(uint8_t *at, uint64_t value)
+{
+    put32(at, (uint32_t)(value >> 32));
+    put32(at + 4, (uint32_t)value);
+}
+
 /* The same numbers in every run. */
 static inline uint32_t random_below(uint32_t bound)
 {

@@ -12,7 +12,7 @@
 /* Objects are words: bK is a block of K bytes, B the largest there is, f a filemark, fK is K of them. Behind @K they go
  * on from byte K, wherever the last one ended. All cartridges before UNSOUND are sound, and none from it on. */
 enum cartridge {
-    NONE, E, GUARDED, BLANK, BLANK_65, TEN, FULL, MIXED, PARTED, BIG,
+    NONE, E, GUARDED, BLANK, BLANK_65, TEN, FULL, MIXED, FILES, PARTED, BIG,
     UNSOUND, OVERLAPPING, BLOCK_OF_0, FILEMARK_AT_1, FILEMARKS_AT_5
 };
 
@@ -31,6 +31,7 @@ static const struct tape {
     [TEN] = {SHORTEST, 0, 0xee, "b10"},
     [FULL] = {SHORTEST, 0, 0xee, "b44"},
     [MIXED] = {96, 0, 0xee, "b3 f b3 b3 b5 f b3"},
+    [FILES] = {SHORTEST, 0, 0xee, "b1 b2 f b3 f"},
     [PARTED] = {SHORTEST, 0, 0xee, "b3 f b2"},
     [BIG] = {2 * LARGEST_BLOCK + SHORTEST, 0, 0xee, "B"},
     [UNSOUND] = {E_BYTES, 2 * FLAG_PROTECTED, 0x00, "b3 f"},

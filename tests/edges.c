@@ -1,7 +1,8 @@
-/* edges.c: commands at the edges held to document 01, called as a C daemon calls them. */
+/* edges.c: commands at the edges held to documents 01 and 02, called as a C daemon calls them. */
 #define _DEFAULT_SOURCE
 #include "drive.h"
 #include "edges_data.h"
+#include "edges_long.h"
 #include "edges_order.h"
 
 /* ---- the document's own table */
@@ -99,6 +100,14 @@ static const struct edge life[] = {
      .data = BYTES(0x70, 0, 0, 0, 0, 0, 0, 0x0a, 0, 0, 0, 0, 0, 0, 0, 0, 0, 0)},
     {.what = "REWIND stays on the partition", .command = SIX(REWIND, 0, 0), .after = TWO(1, 0)},
     {.what = "READ of what was written", .command = SIX(READ, 0, 2), .after = TWO(1, 1), .data = BYTES(8, 9)},
+    {.what = "LOCATE (16) to E's second file", .command = LOCATE_16(CP | TO_FILE, 1, 0), .after = TWO(0, 2)},
+    {.what = "SPACE (16) back to its beginning", .command = SPACE_16(FILEMARKS, -POWER_32), .after = TWO(0, 0),
+     .told = NO_RESIDUE(TOLD_BEGINNING)},
+    {.what = "whose sense has no residue", .command = SIX(REQUEST_SENSE, 0, SENSE_BYTES), .after = TWO(0, 0),
+     .data = BYTES(0x70, 0, 0x40, 0, 0, 0, 0, 0x0a, 0, 0, 0, 0, 0, 4, 0, 0, 0, 0)},
+    {.what = "READ of E's block again", .command = SIX(READ, 0, 3), .after = TWO(0, 1), .data = BYTES(1, 2, 3)},
+    {.what = "LOCATE (16) past the end of the other", .command = LOCATE_16(CP, POWER_32, 1), .after = TWO(1, 1),
+     .told = PAST_END},
     {.what = "block length 2", .command = SIX(MODE_SELECT, PF, MODE_BYTES),
      .list = BYTES(0, 0, 0, 8, 0, 0, 0, 0, 0, 0, 0, 2), .after = {1, 2, 1, ATTENTION_NONE, 1, 2, {0}},
      .carried = MODE_BYTES},
@@ -172,6 +181,7 @@ int main(void)
     run(slips, COUNT(slips));
     order_of_tests();
     data_and_movement();
+    long_movement();
     one_life();
     printf("%lu cases\n", cases_run);
     return tally();

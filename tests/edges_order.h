@@ -182,6 +182,68 @@ static const struct edge buffers[] = {
      .refusal = BY_RECEIVED},
 };
 
+/* ---- the same of LOCATE (16) and SPACE (16), which take and give nothing */
+
+#define NOT_LOADED PLAIN(TOLD_NOT_LOADED)
+static const struct edge long_blocks[] = {
+    {"fifteen bytes of LOCATE (16)", E, {BYTES_16 - 1, {LOCATE_16}}, AT(1), .refusal = BY_COMMAND},
+    {"fifteen bytes of SPACE (16)", E, {BYTES_16 - 1, {SPACE_16}}, AT(1), .refusal = BY_COMMAND},
+    {"ten bytes of LOCATE (16)", NONE, {BYTES_10, {LOCATE_16}}, BARE(ATTENTION_FRESH, 0), .refusal = BY_COMMAND},
+    {"six bytes of SPACE (16) on an unsound partition", UNSOUND, {BYTES_6, {SPACE_16}}, AT(1), .refusal = BY_COMMAND},
+    {"extra bytes behind LOCATE (16)", E, {BYTES_16 + 2, {LOCATE_16, [11] = 1, [16] = 255, 255}}, AT(2),
+     .after = AT(1)},
+    {"extra bytes behind SPACE (16)", E, {BYTES_16 + 2, {SPACE_16, FILEMARKS, [11] = 1, [16] = 255, 255}}, AT(0),
+     .after = AT(2)},
+    {"code 90h is not served", E, {BYTES_16, {0x90}}, AT(1), .after = AT(1), .told = PLAIN(TOLD_NOT_SERVED)},
+    {"code 93h is not served", E, {BYTES_16, {0x93}}, AT(1), .after = AT(1), .told = PLAIN(TOLD_NOT_SERVED)},
+    {"LOCATE (16) from above N", E, LOCATE_16(TO_OBJECT, 0, 0), AT(3), .refusal = BY_DRIVE},
+    {"SPACE (16) beside an unsound partition", E, SPACE_16(BLOCKS, 1), TWO(0, 0), .p1 = UNSOUND, .refusal = BY_DRIVE},
+    {"LOCATE (16) to an unsound partition", E, LOCATE_16(CP, 0, 1), TWO(0, 0), .p1 = UNSOUND, .refusal = BY_DRIVE},
+    {"an attention before LOCATE (16)", E, LOCATE_16(TO_FILE, 1, 0), LOADED(ATTENTION_MOUNTED, 0, 9),
+     .after = SET(9, 0), .told = PLAIN(TOLD_MOUNTED)},
+    {"an attention before SPACE (16)", E, SPACE_16(TO_END_OF_DATA, 0), LOADED(ATTENTION_FRESH, 1, 0), .after = AT(1),
+     .told = PLAIN(TOLD_FRESH)},
+    {"an attention before a destination not served", NONE, LOCATE_16(DESTINED(2), 0, 0), BARE(ATTENTION_FRESH, 9),
+     .after = EMPTY(9), .told = PLAIN(TOLD_FRESH)},
+    {"an attention before a bit of SPACE (16)", E, SPACE_16(0xf0, 0), LOADED(ATTENTION_MOUNTED, 1, 0), .after = AT(1),
+     .told = PLAIN(TOLD_MOUNTED)},
+    {"LOCATE (16) to an object needs a cartridge", NONE, LOCATE_16(TO_OBJECT, 0, 0), EMPTY(9), .after = EMPTY(9),
+     .told = NOT_LOADED},
+    {"LOCATE (16) to a file needs a cartridge", NONE, LOCATE_16(TO_FILE, 0, 0), EMPTY(9), .after = EMPTY(9),
+     .told = NOT_LOADED},
+    {"LOCATE (16) to end of data needs a cartridge", UNSOUND, LOCATE_16(TO_END, 0, 0), EMPTY(9), .after = EMPTY(9),
+     .told = NOT_LOADED},
+    {"2/3A before LOCATE (16)'s partition", NONE, LOCATE_16(CP, 0, 1), EMPTY(0), .after = EMPTY(0), .told = NOT_LOADED},
+    {"SPACE (16) needs a cartridge", NONE, SPACE_16(BLOCKS, 0), EMPTY(9), .after = EMPTY(9), .told = NOT_LOADED},
+    {"SPACE (16) to end of data needs a cartridge", NONE, SPACE_16(TO_END_OF_DATA, 0), EMPTY(9), .after = EMPTY(9),
+     .told = NOT_LOADED},
+};
+
+/* Each on a loaded drive, where nothing moves, and with nothing loaded, where 2/3A comes later. */
+#define WRONG(what, ...)                                                                  \
+    {what, E, __VA_ARGS__, AT(1), .after = AT(1), .told = FIELD},                         \
+    {what ", unloaded", NONE, __VA_ARGS__, EMPTY(9), .after = EMPTY(9), .told = FIELD}
+#define WRONG_DESTINATION(number) WRONG("destination " #number, LOCATE_16(DESTINED(number), 0, 0))
+#define WRONG_CODE(code) WRONG("SPACE (16) code " #code, SPACE_16(code, 0))
+#define WRONG_BYTE(code, byte, bits) WRONG(#code ", byte " #byte " " #bits, {BYTES_16, {[0] = code, [byte] = bits}})
+static const struct edge long_fields[] = {
+    WRONG_DESTINATION(2), WRONG_DESTINATION(4), WRONG_DESTINATION(5), WRONG_DESTINATION(6), WRONG_DESTINATION(7),
+    WRONG("destination 2 as a file that is there", LOCATE_16(DESTINED(2) | IMMED, 1, 0)),
+    WRONG("destination 4 of a partition not there", LOCATE_16(DESTINED(4) | CP, UINT64_MAX, 255)),
+    /* Bits 7, 6 and 2 of byte 1, BAM and the reserved bits beside it, what is reserved behind, the control byte. */
+    WRONG_BYTE(LOCATE_16, 1, 0x04), WRONG_BYTE(LOCATE_16, 1, 0x40), WRONG_BYTE(LOCATE_16, 1, 0x80),
+    WRONG_BYTE(LOCATE_16, 2, 0x01), WRONG_BYTE(LOCATE_16, 2, 0x80), WRONG_BYTE(LOCATE_16, 12, 0x01),
+    WRONG_BYTE(LOCATE_16, 13, 0x80), WRONG_BYTE(LOCATE_16, 14, 0x01), WRONG_BYTE(LOCATE_16, 15, 0x40),
+    WRONG_CODE(2), WRONG_CODE(4), WRONG_CODE(5), WRONG_CODE(6), WRONG_CODE(7), WRONG_CODE(8), WRONG_CODE(9),
+    WRONG_CODE(10), WRONG_CODE(11), WRONG_CODE(12), WRONG_CODE(13), WRONG_CODE(14), WRONG_CODE(15),
+    WRONG("SPACE (16) code 2 with a count", SPACE_16(2, -1)),
+    /* The high bits of byte 1, bytes 2 and 3, the parameter length, what is reserved behind, the control byte. */
+    WRONG_BYTE(SPACE_16, 1, 0x10), WRONG_BYTE(SPACE_16, 1, 0x20), WRONG_BYTE(SPACE_16, 1, 0x40),
+    WRONG_BYTE(SPACE_16, 1, 0x80), WRONG_BYTE(SPACE_16, 2, 0x01), WRONG_BYTE(SPACE_16, 3, 0x01),
+    WRONG_BYTE(SPACE_16, 3, 0x80), WRONG_BYTE(SPACE_16, 12, 0x01), WRONG_BYTE(SPACE_16, 13, 0x10),
+    WRONG_BYTE(SPACE_16, 14, 0x80), WRONG_BYTE(SPACE_16, 15, 0x01),
+};
+
 static void order_of_tests(void)
 {
     run(blocks, COUNT(blocks));
@@ -189,6 +251,8 @@ static void order_of_tests(void)
     run(attentions, COUNT(attentions));
     run(fields, COUNT(fields));
     run(buffers, COUNT(buffers));
+    run(long_blocks, COUNT(long_blocks));
+    run(long_fields, COUNT(long_fields));
 }
 
 #endif

@@ -1,8 +1,10 @@
-/* numbers.h: the numbers of document 01, each named once for the host-side tests and the benchmark, in 01's words.
+/* numbers.h: the numbers of document 01, and of 02 where it adds some, each named once for the host-side tests and the
+ * benchmark, in their words.
  *
  * Numbers and no rules: what a caller of the library needs too is named in the public header, and the rest here; both
- * are written from 01 and not from the library's sources. The commands and their bits have 01's own names, all others a
- * prefix. The bytes of a case (a command block, a list, an expected reply, an image) are its data, and stay bytes.
+ * are written from 01 and 02, not from the library's sources. The commands and their bits have 01's own names, all
+ * others a prefix. The bytes of a case (a command block, a list, an expected reply, an image) are its data, and stay
+ * bytes.
  */
 #ifndef NUMBERS_H
 #define NUMBERS_H
@@ -92,11 +94,12 @@ enum {
     TEST_UNIT_READY = 0x00, REWIND = 0x01, REQUEST_SENSE = 0x03, READ_BLOCK_LIMITS = 0x05, READ = 0x08, WRITE = 0x0a,
     WRITE_FILEMARKS = 0x10, SPACE = 0x11, MODE_SELECT = 0x15, ERASE = 0x19, MODE_SENSE = 0x1a, LOAD_UNLOAD = 0x1b,
     LOCATE = 0x2b, READ_POSITION = 0x34,
+    SPACE_16 = 0x91, LOCATE_16 = 0x92, /* of 02 */
     INQUIRY = 0x12 /* "Not served" */
 };
 
-/* "Masks from byte 1 on, byte:bits, others 00", a ROW for each command served: code, name, whether it needs no
- * cartridge ("03, 05, 15, 1A need no cartridge"), masks. */
+/* "Masks from byte 1 on, byte:bits, others 00", and 02's "92 1:3B 3-11:FF; 91 1:0F 4-11:FF", a ROW for each command
+ * served: code, name, whether it needs no cartridge ("03, 05, 15, 1A need no cartridge"), masks. */
 #define SERVED(ROW)                                                               \
     ROW(TEST_UNIT_READY, "TEST UNIT READY", 0, 0x00)                              \
     ROW(REWIND, "REWIND", 0, 0x01)                                                \
@@ -111,13 +114,18 @@ enum {
     ROW(MODE_SENSE, "MODE SENSE", 1, 0x08, 0x3f, 0x00, 0xff)                      \
     ROW(LOAD_UNLOAD, "LOAD UNLOAD", 0, 0x01, 0x00, 0x00, 0x01)                    \
     ROW(LOCATE, "LOCATE", 0, 0x03, 0x00, 0xff, 0xff, 0xff, 0xff, 0x00, 0xff)      \
-    ROW(READ_POSITION, "READ POSITION", 0, 0x1f)
+    ROW(READ_POSITION, "READ POSITION", 0, 0x1f)                                  \
+    ROW(SPACE_16, "SPACE (16)", 0,                                                \
+        0x0f, 0x00, 0x00, 0xff, 0xff, 0xff, 0xff, 0xff, 0xff, 0xff, 0xff)         \
+    ROW(LOCATE_16, "LOCATE (16)", 0,                                              \
+        0x3b, 0x00, 0xff, 0xff, 0xff, 0xff, 0xff, 0xff, 0xff, 0xff, 0xff)
 
 /* "00-1F 6, 20-5F 10, 80-9F 16, A0-BF 12, others 0": the lengths, and the first code of each group. */
 enum { BYTES_6 = 6, BYTES_10 = 10, BYTES_12 = 12, BYTES_16 = 16 };
 enum { CODES_OF_10 = 0x20, CODES_OF_NONE = 0x60, CODES_OF_16 = 0x80, CODES_OF_12 = 0xa0, CODES_BEHIND_12 = 0xc0 };
 
-/* Bits of byte 1: REWIND, LOAD UNLOAD and LOCATE; READ and WRITE; ERASE; LOCATE; MODE SENSE; MODE SELECT. */
+/* Bits of byte 1: REWIND, LOAD UNLOAD and LOCATE; READ and WRITE; ERASE; LOCATE; MODE SENSE; MODE SELECT. LOCATE (16)
+ * has those of LOCATE. */
 enum { IMMED = 0x01, FIXED = 0x01, SILI = 0x02, LONG = 0x01, ERASE_IMMED = 0x02, CP = 0x02, DBD = 0x08, PF = 0x10 };
 
 /* SPACE's code and READ POSITION's form are byte 1, MODE SENSE's page is byte 2. */
@@ -131,6 +139,13 @@ enum { COUNT_BITS = 24, COUNT_MOST = 0xffffff, COUNT_SIGN = 0x800000 };
 
 /* LOCATE: "bytes 3-6 object, byte 8 partition". */
 enum { AT_OBJECT = 3, AT_PARTITION = 8 };
+
+/* SPACE (16): "an eight-byte signed count in bytes 4-11 and the codes served today". LOCATE (16), as in table 65 of
+ * 000: the partition is byte 3, the identifier bytes 4-11, the destination bits 5-3 of byte 1; those that are served
+ * stand here in their place. */
+enum { AT_COUNT_16 = 4, AT_PARTITION_16 = 3, AT_IDENTIFIER = 4 };
+enum { DESTINATION = 0x38, TO_OBJECT = 0x00, TO_FILE = 0x08, TO_END = 0x18, DESTINATIONS = 8 };
+#define DESTINED(number) ((number) << 3)
 
 /* ---- what is handed over and taken */
 

@@ -1,5 +1,5 @@
-/* differential.c SEED CALLS [largest]: the library held to the model of document 01, call by call, on seeded random
- * work. With the largest, bytes carried and zeroed come near 2^30, which takes 3 GiB of memory. */
+/* differential.c SEED CALLS [largest]: the library held to the model of documents 01 and 02, call by call, on seeded
+ * random work. With the largest, bytes carried and zeroed come near 2^30, which takes 3 GiB of memory. */
 #define _DEFAULT_SOURCE
 #include "report.h"
 #include "vast.h"

@@ -1,7 +1,8 @@
 #!/usr/bin/env bash
 # faults.sh: shows that tests/differential/differential.c can fail: the run of check finds each slip that is seeded in
 # the model, or, where a store may not go, behind the library; those marked so, the run with the largest work. The slips
-# of the directory's check are shown to tests/differential/damage.c too, and some to it alone.
+# of the directory's check are shown to tests/differential/damage.c too, and some to it alone; those of the movement by
+# sixteen bytes come last.
 # LIBRARY names another archive than the one that is built here from the sources.
 set -u
 cd "$(dirname "$0")/../.." || exit 2
@@ -60,5 +61,33 @@ slips+=(
 echo "on damaged directories"
 for fault in 0 $(seq "$directory" $((${#slips[@]} - 1))); do
     run_with_slip "$fault" "${slips[fault]}" tests/differential/damage.c 1 || failed=1
+done
+
+# Slips of LOCATE (16) and SPACE (16), each with the wrong answer that it gives.
+moves=${#slips[@]}
+slips+=(
+    "an identifier cut to 32 bits, 2^32 goes to 0"
+    "LOCATE (16) to a file stops before its filemark, not just after it"
+    "a residue of 2^31 fits, it is told as 80000000h with VALID"
+    "a count of -2^63 taken as 0, GOOD where it is"
+    "destination 2 served as a file, no 5/24/00"
+    "the partition of LOCATE (16) taken from byte 8, which is the identifier's"
+    "a residue of -2^31 does not fit, it is told as 0 without VALID"
+    "files counted from the position and not from the beginning"
+    "a file without objects is past the end, 8/00/05"
+    "the file behind the last filemark is past the end, 8/00/05"
+    "a count of SPACE (16) cut to 32 bits, 2^32 is GOOD where it is"
+    "a residue that does not fit told by its low 32 bits, without VALID"
+    "destinations judged after the cartridge, 2/3A/00 and no 5/24/00"
+    "byte 3 of LOCATE (16) names a partition without CP too"
+    "past the end of the other partition LOCATE (16) stays on this one"
+    "end of data judged by the identifier, 8/00/05 where it is past N"
+    "FILEMARK and EOM are left out with a residue that does not fit"
+    "no file above 65,535 is found, 8/00/05"
+    "no file above 16,777,215 is found, 8/00/05"
+)
+echo "on movement by sixteen bytes"
+for fault in $(seq "$moves" $((${#slips[@]} - 1))); do
+    run_with_slip "$fault" "${slips[fault]}" tests/differential/differential.c 1 500000 || failed=1
 done
 exit "$failed"

@@ -1,5 +1,6 @@
-/* model.h: document 01 in plain C, written from it alone: images as objects, the record, the house services. Its
- * numbers are those of numbers.h, as a number of 01 is one for all; its rules are its own, and no other test's. */
+/* model.h: document 01 with what 02 adds, in plain C, written from them alone: images as objects, the record, the house
+ * services. Its numbers are those of numbers.h, as a number of 01 is one for all; its rules are its own, and no other
+ * test's. */
 #ifndef MODEL_H
 #define MODEL_H
 
@@ -156,6 +157,14 @@ static inline int in_zone(const struct tape *tape, uint64_t n)
     if (FAULT == 4)
         return share <= tape->length - TRAILER;
     return share < tape->length - TRAILER;
+}
+
+static inline uint64_t filemarks_before(const struct tape *tape, uint64_t n)
+{
+    uint64_t filemarks = 0;
+    for (uint64_t i = 0; i < n; i++)
+        filemarks += (uint64_t)tape->objects[i].is_filemark;
+    return filemarks;
 }
 
 /* Lays N, and D, which follows from it. */

@@ -1,8 +1,9 @@
-/* model_commands.h: what each command does in plain C, written from document 01 alone, and the whole command call. */
+/* model_commands.h: what each command does in plain C, written from documents 01 and 02 alone, and the whole command
+ * call. */
 #ifndef MODEL_COMMANDS_H
 #define MODEL_COMMANDS_H
 
-#include "model_order.h"
+#include "model_moves.h"
 
 /* ---- READ */
 
@@ -106,52 +107,7 @@ static inline void write_blocks(struct session *s)
         put_all(s, 1, count, count);
 }
 
-/* ---- movement and erasure */
-
-static inline void space(struct session *s)
-{
-    const struct tape *tape = &s->tape[s->current];
-    int64_t count = signed_count_of(s->block), moved = 0;
-    int code = s->block[1];
-    if (code == TO_END_OF_DATA) {
-        s->position = tape->count;
-        return;
-    }
-    while (moved != count) {
-        int step = count > 0 ? 1 : -1;
-        const struct object *crossed;
-        if (step > 0 && s->position == tape->count) {
-            tell(s, TOLD_END_OF_DATA, count - moved);
-            return;
-        }
-        if (step < 0 && s->position == 0) {
-            tell(s, TOLD_BEGINNING, count - moved);
-            return;
-        }
-        crossed = &tape->objects[step > 0 ? s->position : s->position - 1];
-        s->position = step > 0 ? s->position + 1 : s->position - 1;
-        if (crossed->is_filemark == (code == FILEMARKS)) {
-            moved += step;
-        } else if (code == BLOCKS) {
-            tell(s, TOLD_FILEMARK, count - moved);
-            return;
-        }
-    }
-}
-
-static inline void locate(struct session *s)
-{
-    uint32_t object = get32(s->block + AT_OBJECT);
-    uint64_t count;
-    if (s->block[1] & CP)
-        s->current = s->block[AT_PARTITION];
-    count = s->tape[s->current].count;
-    if (FAULT == 10)
-        count &= 0xffff;
-    s->position = smaller(object, count);
-    if (object > count)
-        tell(s, TOLD_END_OF_DATA, 0);
-}
+/* ---- erasure, and the cartridge as a whole */
 
 static inline void erase(struct session *s)
 {
@@ -186,14 +142,11 @@ static inline void read_position(struct session *s)
 {
     const struct tape *tape = &s->tape[s->current];
     uint8_t data[LONG_BYTES] = {0};
-    uint32_t filemarks = 0;
     data[0] = (uint8_t)((s->position == 0 ? POSITION_BOP : 0) | (in_zone(tape, s->position) ? POSITION_ZONE : 0));
     if (s->block[1] == FORM_LONG) {
-        for (uint64_t i = 0; i < s->position; i++)
-            filemarks += (uint32_t)tape->objects[i].is_filemark;
         put32(data + LONG_PARTITION, s->current);
         put32(data + LONG_POSITION, (uint32_t)s->position);
-        put32(data + LONG_FILEMARKS, (uint32_t)cut(filemarks, 15, 16));
+        put32(data + LONG_FILEMARKS, (uint32_t)cut(filemarks_before(tape, s->position), 15, 16));
     } else {
         data[SHORT_PARTITION] = s->current;
         put32(data + SHORT_FIRST, (uint32_t)s->position);
@@ -264,13 +217,15 @@ static inline void act(struct session *s, const uint8_t *kept)
         break;
     case WRITE: write_blocks(s); break;
     case WRITE_FILEMARKS: put_all(s, count_of(s->block), 0, 1); break;
-    case SPACE: space(s); break;
+    case SPACE: space(s, signed_count_of(s->block)); break;
     case MODE_SELECT: mode_select(s); break;
     case ERASE: erase(s); break;
     case MODE_SENSE: mode_sense(s); break;
     case LOAD_UNLOAD: load_unload(s); break;
     case LOCATE: locate(s); break;
     case READ_POSITION: read_position(s); break;
+    case SPACE_16: space(s, long_count_of(s->block)); break;
+    case LOCATE_16: locate_16(s); break;
     default: break; /* TEST UNIT READY */
     }
 }

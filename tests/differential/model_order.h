@@ -1,4 +1,5 @@
-/* model_order.h: the order of a command in plain C, from document 01 alone: tables, sense, the tests before it acts. */
+/* model_order.h: the order of a command in plain C, from documents 01 and 02 alone: tables, sense, the tests before it
+ * acts. */
 #ifndef MODEL_ORDER_H
 #define MODEL_ORDER_H
 
@@ -36,7 +37,7 @@ static inline unsigned block_bytes(uint8_t code)
 #define SERVED_ROW(code, name, without_cartridge, ...) {code, without_cartridge, {0, __VA_ARGS__}, name},
 static const struct served {
     uint8_t code, without_cartridge;
-    uint8_t mask[BYTES_10]; /* mask[0] is not used */
+    uint8_t mask[BYTES_16]; /* mask[0] is not used */
     const char *name;
 } all_served[] = {SERVED(SERVED_ROW)};
 
@@ -63,6 +64,34 @@ static inline int64_t signed_count_of(const uint8_t *block)
     return count >= COUNT_SIGN ? count - (COUNT_MOST + 1) : count;
 }
 
+/* Bytes 4 to 11 of SPACE (16), in two's complement. */
+static inline int64_t long_count_of(const uint8_t *block)
+{
+    uint64_t count = get64(block + AT_COUNT_16);
+    if (FAULT == 41 && count == UINT64_C(1) << 63)
+        count = 0;
+    if (FAULT == 48)
+        return (int32_t)count;
+    /* All its bits turned are one less than its negative, which is how -2^63 is told without 2^63. */
+    return count >> 63 == 0 ? (int64_t)count : -(int64_t)~count - 1;
+}
+
+/* Bytes 4 to 11 of LOCATE (16), without a sign. */
+static inline uint64_t identifier_of(const uint8_t *block)
+{
+    return cut(get64(block + AT_IDENTIFIER), 38, 32);
+}
+
+static inline int names_partition(const uint8_t *block)
+{
+    return (block[0] == LOCATE || block[0] == LOCATE_16) && (block[1] & CP || (FAULT == 51 && block[0] == LOCATE_16));
+}
+
+static inline uint8_t partition_of(const uint8_t *block)
+{
+    return block[block[0] == LOCATE || FAULT == 43 ? AT_PARTITION : AT_PARTITION_16];
+}
+
 static inline int is_fixed(const uint8_t *block)
 {
     return block[1] & FIXED;
@@ -80,15 +109,23 @@ static inline uint64_t smaller(uint64_t a, uint64_t b)
 
 /* ---- sense */
 
+/* Only SPACE (16) can have a residue that does not fit. */
+static inline int fits_32_bits(int64_t residue)
+{
+    return residue >= INT32_MIN + (int64_t)(FAULT == 44) && residue <= INT32_MAX + (int64_t)(FAULT == 40);
+}
+
 static inline void tell(struct session *s, enum told_number told, int64_t residue)
 {
     uint8_t code = s->block[0], key = TOLD_KEY(told);
-    int counts = code == READ || code == WRITE || code == WRITE_FILEMARKS || code == SPACE;
-    int is_valid = counts && (key == KEY_NONE || key == KEY_BLANK || key == KEY_OVERFLOW);
+    int counts = code == READ || code == WRITE || code == WRITE_FILEMARKS || code == SPACE || code == SPACE_16;
+    int has_residue = counts && (key == KEY_NONE || key == KEY_BLANK || key == KEY_OVERFLOW);
+    int is_valid = has_residue && fits_32_bits(residue);
     memset(s->sense, 0, SENSE_BYTES);
     s->sense[STORMTOGGLE_SENSE_FIRST] = is_valid ? STORMTOGGLE_VALID : STORMTOGGLE_NOT_VALID;
-    s->sense[STORMTOGGLE_SENSE_KEY] = TOLD_BYTE_2(told);
-    put32(s->sense + STORMTOGGLE_SENSE_INFORMATION, is_valid ? (uint32_t)(residue & 0xffffffff) : 0);
+    s->sense[STORMTOGGLE_SENSE_KEY] = FAULT == 54 && has_residue && !is_valid ? key : TOLD_BYTE_2(told);
+    put32(s->sense + STORMTOGGLE_SENSE_INFORMATION,
+          is_valid || (FAULT == 49 && has_residue) ? (uint32_t)(residue & 0xffffffff) : 0);
     s->sense[STORMTOGGLE_SENSE_REST] = SENSE_REST;
     s->sense[STORMTOGGLE_SENSE_ASC] = TOLD_ASC(told);
     s->sense[STORMTOGGLE_SENSE_ASCQ] = TOLD_ASCQ(told);
@@ -103,6 +140,14 @@ static inline void tell_attention(struct session *s)
 
 /* ---- the tests before the act */
 
+static inline int destination_is_wrong(const uint8_t *block)
+{
+    uint8_t destination = block[1] & DESTINATION;
+    if (FAULT == 42 && destination == DESTINED(2))
+        return 0;
+    return destination != TO_OBJECT && destination != TO_FILE && destination != TO_END;
+}
+
 static inline int fields_are_wrong(const struct session *s, const struct served *served)
 {
     const uint8_t *block = s->block;
@@ -112,10 +157,11 @@ static inline int fields_are_wrong(const struct session *s, const struct served 
     switch (block[0]) {
     case READ: return is_fixed(block) && (block[1] & SILI || s->block_length == 0);
     case WRITE: return is_fixed(block) ? s->block_length == 0 : count_of(block) > LARGEST_BLOCK;
-    case SPACE: return block[1] != BLOCKS && block[1] != FILEMARKS && block[1] != TO_END_OF_DATA;
+    case SPACE: case SPACE_16: return block[1] != BLOCKS && block[1] != FILEMARKS && block[1] != TO_END_OF_DATA;
     case MODE_SELECT: return (block[1] & PF) == 0;
     case MODE_SENSE: return block[AT_PAGE] != PAGE_NONE && block[AT_PAGE] != PAGE_ALL;
     case READ_POSITION: return block[1] != FORM_SHORT && block[1] != FORM_LONG;
+    case LOCATE_16: return destination_is_wrong(block) && (FAULT != 50 || s->loaded);
     default: return 0;
     }
 }
@@ -176,7 +222,7 @@ static inline int ends_before_the_act(struct session *s)
         return tell(s, TOLD_LIST_LENGTH, 0), 1;
     if (!s->loaded && !served->without_cartridge)
         return tell(s, TOLD_NOT_LOADED, 0), 1;
-    if (block[0] == LOCATE && block[1] & CP && block[AT_PARTITION] >= s->partitions)
+    if (names_partition(block) && partition_of(block) >= s->partitions)
         return tell(s, TOLD_FIELD, 0), 1;
     if (changes_cartridge(block[0]) && s->tape[s->current].is_protected)
         return tell(s, TOLD_PROTECTED, 0), 1;

@@ -2,7 +2,7 @@
 #ifndef REACHED_H
 #define REACHED_H
 
-#include "rooms.h"
+#include "moves.h"
 
 enum service { FRESH, BLANK, MOUNT, PROTECT, VIEW, A_COMMAND, SERVICES };
 static const char *const service_names[] = {"fresh", "blank", "mount", "protect", "view", "command"};
@@ -25,7 +25,7 @@ static int sealed[SLICES];
  * one of more than 16 bits. */
 enum width {
     WIDE_N, WIDE_POSITION, WIDE_FILEMARKS, WIDE_FIXED, WIDE_BLOCK, WIDE_CARRIED, WIDE_ZEROED, WIDE_ROOM, WIDE_START,
-    WIDTHS
+    WIDE_OBJECT, WIDE_FILE, WIDE_SPACE, WIDTHS
 };
 enum { WIDEST = 65 };
 
@@ -65,6 +65,18 @@ static inline uint64_t room_in(enum slice slice, uint64_t n)
     return twins[slice].length - TRAILER - ENTRY * n - end_in(slice, n);
 }
 
+/* Of LOCATE (16) and SPACE (16) that came just where they were sent. */
+static inline void count_wide_move(const uint8_t *block)
+{
+    uint64_t number = get64(block + AT_IDENTIFIER);
+    if (block[0] == SPACE_16 && block[1] != TO_END_OF_DATA)
+        note_width(WIDE_SPACE, number >> 63 == 0 ? number : -number);
+    if (block[0] == LOCATE_16 && (block[1] & DESTINATION) == TO_OBJECT)
+        note_width(WIDE_OBJECT, number);
+    if (block[0] == LOCATE_16 && (block[1] & DESTINATION) == TO_FILE)
+        note_width(WIDE_FILE, number);
+}
+
 /* Of a command that found its cartridge and was not refused; carried is what the answer says. */
 static inline void count_cartridge(const uint8_t *block, uint64_t carried)
 {
@@ -84,6 +96,8 @@ static inline void count_cartridge(const uint8_t *block, uint64_t carried)
     }
     if (block[0] == ERASE && block[1] & LONG && told_in(record) == TOLD_GOOD)
         note_width(WIDE_ZEROED, room);
+    if (is_long_move(block[0]) && told_in(record) == TOLD_GOOD)
+        count_wide_move(block);
 }
 
 /* ---- the call */
@@ -110,9 +124,12 @@ static inline void count_command(unsigned refusal, uint64_t answer)
     count_sealed(block, refusal);
     if (refusal != 0) {
         reached.refused[block[0]]++;
+        note_move(ONE_BYTE_SHORT, is_long_move(block[0]) && twins[COMMAND].length == BYTES_16 - 1);
         return;
     }
     told = told_in(record);
+    if (is_long_move(block[0]))
+        count_move(block, told, record_before, record);
     note_width(WIDE_BLOCK, twins[COMMAND].length);
     if (record[STORMTOGGLE_RECORD_LOADED])
         count_cartridge(block, STORMTOGGLE_CARRIED(answer));

@@ -87,6 +87,9 @@ static inline void report_widths(void)
         [WIDE_ZEROED] = {"bytes zeroed by LONG", {16, 24, 28}, 29},
         [WIDE_ROOM] = {"room x 16", {16, 24, 32, 33}, 0},
         [WIDE_START] = {"the start of a view", {16, 24, 28, 29}, 0},
+        [WIDE_OBJECT] = {"an object of LOCATE (16)", {16, 17, 20, 24}, 0},
+        [WIDE_FILE] = {"a file of LOCATE (16)", {16, 17, 20, 24}, 0},
+        [WIDE_SPACE] = {"a count of SPACE (16)", {16, 17, 20, 24}, 0},
     };
     for (int i = 0; i < WIDTHS; i++) {
         printf("%s above", widths[i].name);
@@ -94,6 +97,36 @@ static inline void report_widths(void)
             printf(" 2^%d %lu", widths[i].powers[j], shown(times_above((enum width)i, widths[i].powers[j])));
         if (reached.with_largest && widths[i].largest > 0)
             printf(" | 2^%d %lu", widths[i].largest, shown(times_above((enum width)i, widths[i].largest)));
+        printf("\n");
+    }
+}
+
+/* The outcomes that each destination has. */
+static inline void report_destinations(void)
+{
+    static const uint8_t served[OUTCOMES] = {
+        [GOES_THERE] = 1, [GOES_TO_N] = 1, [HAS_NO_PARTITION] = 1, [IS_NOT_READY] = 1};
+    static const uint8_t not_served[OUTCOMES] = {[IS_WRONG_LOADED] = 1, [IS_WRONG_UNLOADED] = 1};
+    for (int i = 0; i < DESTINATIONS; i++) {
+        int is_end = DESTINED(i) == TO_END, is_served = is_end || DESTINED(i) == TO_OBJECT || DESTINED(i) == TO_FILE;
+        printf("LOCATE (16), destination %d", i);
+        for (int outcome = 0; outcome < OUTCOMES; outcome++)
+            if ((is_served ? served : not_served)[outcome] && !(is_end && outcome == GOES_TO_N))
+                printf(", %s %lu", outcome_names[outcome], shown(long_moves.ended[i][outcome]));
+        printf("\n");
+    }
+}
+
+static inline void report_moves(void)
+{
+    report_destinations();
+    for (int kind = 0; kind < MOVE_KINDS; kind++)
+        printf("%-66s %9lu\n", move_names[kind], shown(long_moves.kinds[kind]));
+    for (int stop = 0; stop < STOPS; stop++) {
+        printf("SPACE (16) of %s, the residue", stop_names[stop]);
+        for (int residue = 0; residue < RESIDUES; residue++)
+            printf("%s %s %lu", residue == 0 ? "" : ",", residue_names[residue],
+                   shown(long_moves.stopped[stop][residue]));
         printf("\n");
     }
 }
@@ -113,6 +146,7 @@ static inline int report(void)
     report_commands();
     report_senses();
     report_widths();
+    report_moves();
     report_read_only();
     printf("empty slices as NULL %lu, 2^32 bytes and more asked %lu, and lent %lu, 65,536 put %lu\n",
            shown(reached.null_slices), shown(reached.wide_products), shown(reached.wide_done),

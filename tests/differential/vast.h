@@ -58,7 +58,8 @@ static inline void fill_room(enum slice slice)
 
 /* ---- commands */
 
-/* Bytes 2 to 4 are the number, LOCATE's object, or nothing. Lent is just what the command needs, and so much more. */
+/* The number is LOCATE's object, or the eight bytes of a block of sixteen, or else bytes 2 to 4. Lent is just what the
+ * command needs, and so much more. */
 static inline void make_ready(uint8_t code, uint8_t byte_1, uint64_t number, size_t more)
 {
     struct session asked = {
@@ -69,6 +70,9 @@ static inline void make_ready(uint8_t code, uint8_t byte_1, uint64_t number, siz
     if (code == LOCATE) {
         put32(block + AT_OBJECT, (uint32_t)number);
         block[AT_PARTITION] = vast == P1;
+    } else if (is_long_move(code)) {
+        put64(block + AT_IDENTIFIER, number);
+        block[AT_PARTITION_16] = code == LOCATE_16 && vast == P1;
     } else {
         set_count(number);
     }
@@ -168,6 +172,12 @@ static inline void run_counts(void)
     send(READ, FIXED, (1 << 16) + 1 + draw(1000));
     send(SPACE, BLOCKS, 1 << 17);
     send_back(BLOCKS, most + draw(9000));
+    send(LOCATE_16, CP | TO_FILE, most);
+    send(SPACE_16, FILEMARKS, -(uint64_t)most);
+    send(LOCATE_16, CP | TO_FILE, filemarks + draw(2));
+    send(LOCATE_16, CP | TO_OBJECT, most - draw(2));
+    send(SPACE_16, BLOCKS, -(uint64_t)most + draw(3));
+    send(SPACE_16, BLOCKS, (UINT64_C(1) << 31) + blocks - draw(3));
     view_of(blocks - 1);
     run_calls(12);
     give_rooms_back();
@@ -184,7 +194,14 @@ static inline void run_filemarks(enum slice partition, uint64_t count, int thoro
         send(WRITE_FILEMARKS, 0, smaller(rest, COUNT_MOST));
     send(READ_POSITION, FORM_LONG, 0);
     send(LOCATE, CP, count - draw(9));
+    send(LOCATE_16, CP | TO_FILE, count);
+    send(SPACE_16, FILEMARKS, -count);
+    send(LOCATE_16, CP | TO_OBJECT, count);
+    send(SPACE_16, FILEMARKS, -count - (UINT64_C(1) << 31) - draw(2));
     if (thorough) {
+        send(LOCATE_16, CP | TO_FILE, count + 1);
+        send(LOCATE_16, CP | TO_END, 0);
+        send(LOCATE, CP, count - draw(9));
         send_back(FILEMARKS, 3 + draw(9));
         send(READ_POSITION, FORM_LONG, 0);
         send(READ, 0, 9);
@@ -284,7 +301,8 @@ static const uint64_t low_bits_hide[] = {1 << 8, 1 << 16, 1 << 17, 1 << 24, BEYO
 /* A command block is long enough, however long. */
 static inline void run_long_blocks(void)
 {
-    static const uint8_t codes[] = {TEST_UNIT_READY, READ_POSITION, SPACE, CODES_OF_16, CODES_OF_12, CODES_OF_NONE};
+    static const uint8_t codes[] = {
+        TEST_UNIT_READY, READ_POSITION, SPACE, CODES_OF_16, CODES_OF_12, CODES_OF_NONE, SPACE_16, LOCATE_16};
     take_room(COMMAND, beyond_32_bits);
     for (size_t i = 0; i < COUNT(low_bits_hide); i++)
         for (size_t over = 0; over < COUNT(codes); over++) {

@@ -2,112 +2,7 @@
 #ifndef WORK_H
 #define WORK_H
 
-#include "twin.h"
-
-/* ---- what the drive is in, looked up so that most of the work is to the point */
-
-static struct {
-    int loaded;
-    unsigned partitions, current;
-    uint64_t position, block_length;
-    struct tape tape; /* of the current partition; no objects if it is unsound */
-} seen;
-
-static inline void look(void)
-{
-    const uint8_t *record = bytes_of(RECORD, MODEL);
-    enum slice slice;
-    seen.loaded = 0;
-    seen.partitions = seen.current = 0;
-    seen.position = seen.block_length = 0;
-    if (twins[RECORD].length >= RECORD_BYTES) {
-        seen.loaded = record[STORMTOGGLE_RECORD_LOADED] == 1;
-        seen.partitions = record[STORMTOGGLE_RECORD_PARTITIONS];
-        seen.current = record[STORMTOGGLE_RECORD_CURRENT] == 1;
-        seen.position = get32(record + STORMTOGGLE_RECORD_POSITION);
-        seen.block_length = get32(record + STORMTOGGLE_RECORD_BLOCK_LENGTH);
-    }
-    slice = seen.current == 1 ? P1 : P0;
-    decode(&seen.tape, bytes_of(slice, MODEL), twins[slice].length);
-    if (seen.position > seen.tape.count)
-        seen.position = seen.tape.count;
-}
-
-static inline uint64_t seen_room(void)
-{
-    return length_is_lawful(seen.tape.length) ? room_at(&seen.tape, seen.position) : 0;
-}
-
-/* How many bytes of room the zone takes. */
-static inline uint64_t seen_zone(void)
-{
-    return length_is_lawful(seen.tape.length) ? (seen.tape.length - TRAILER) / ZONE_SHARE : 0;
-}
-
-/* ---- the numbers in a command block */
-
-/* Products of 2^32 and more, among them those whose low 32 bits are 0, and merely large ones. */
-static inline uint64_t large_count(void)
-{
-    static const uint32_t counts[] = {0x010000, 0x020000, COUNT_SIGN, COUNT_SIGN - 1, COUNT_MOST, 0x010001, 0xff0000};
-    return one_in(3) ? draw(1 << COUNT_BITS) : counts[draw(COUNT(counts))];
-}
-
-static inline uint64_t read_length(int fixed)
-{
-    uint64_t here = 3;
-    if (one_in(40))
-        return large_count();
-    if (fixed)
-        return draw(5);
-    if (seen.position < seen.tape.count && !seen.tape.objects[seen.position].is_filemark)
-        here = seen.tape.objects[seen.position].end - seen.tape.objects[seen.position].start;
-    switch (draw(6)) {
-    case 0: return draw(6);
-    case 1: case 2: return here;
-    case 3: case 4: return near(here);
-    default: return draw(2 * here + 2);
-    }
-}
-
-static inline uint64_t write_length(int fixed)
-{
-    uint64_t room = seen_room();
-    if (one_in(60))
-        return large_count();
-    if (fixed)
-        return one_in(4) ? near(room / (seen.block_length + ENTRY)) % 4096 : draw(4);
-    switch (draw(12)) {
-    case 0: return near(less(room, ENTRY)) % (LARGEST_BLOCK + 2);
-    case 1: return near(less(room, ENTRY + seen_zone())) % (LARGEST_BLOCK + 2);
-    case 2: return draw(room + 6) % (LARGEST_BLOCK + 1);
-    case 3: return room > LARGEST_BLOCK || one_in(8) ? near(LARGEST_BLOCK) : draw(30);
-    case 4: return room > LARGEST_BLOCK ? LARGEST_BLOCK : draw(room / 4 + 2);
-    case 5: return seen.block_length;
-    default: return draw(9);
-    }
-}
-
-/* Tens of thousands at once are rare: each makes every later call on that cartridge slow. */
-static inline uint64_t filemark_count(void)
-{
-    uint64_t room = seen_room();
-    if (room > 40000 && !one_in(20))
-        return draw(6);
-    switch (draw(10)) {
-    case 0: return near(room / ENTRY);
-    case 1: return near(less(room, seen_zone()) / ENTRY);
-    case 2: return one_in(3) ? large_count() : 0;
-    default: return draw(5);
-    }
-}
-
-static inline uint64_t space_count(void)
-{
-    if (one_in(12))
-        return large_count();
-    return (draw(15) - 7) & COUNT_MOST;
-}
+#include "seen.h"
 
 /* ---- command blocks */
 
@@ -128,6 +23,28 @@ static inline void set_locate(void)
     block[1] = (uint8_t)(one_in(8) * IMMED | one_in(3) * CP);
     put32(block + AT_OBJECT, (uint32_t)object);
     block[AT_PARTITION] = (uint8_t)(one_in(8) ? draw(256) : draw(2));
+}
+
+/* Of a partition as it lies there; one that is unsound has no objects. */
+static inline const struct tape *tape_in(enum slice slice)
+{
+    static struct tape tape;
+    decode(&tape, bytes_of(slice, MODEL), twins[slice].length);
+    return &tape;
+}
+
+static inline void set_locate_16(void)
+{
+    static const uint8_t partitions[] = {0, 0, 0, 0, 1, 1, 1, 1, 2, 255};
+    static const uint8_t served[] = {TO_OBJECT, TO_OBJECT, TO_FILE, TO_FILE, TO_END};
+    uint8_t partition = partitions[draw(COUNT(partitions))];
+    uint8_t destination = one_in(10) ? (uint8_t)DESTINED(draw(DESTINATIONS)) : served[draw(COUNT(served))];
+    int named = one_in(3);
+    const struct tape *target = named && partition < 2 ? tape_in(partition == 0 ? P0 : P1) : &seen.tape;
+    uint64_t most = destination == TO_FILE ? filemarks_before(target, target->count) : target->count;
+    block[1] = (uint8_t)(destination | one_in(8) * IMMED | named * CP);
+    block[AT_PARTITION_16] = partition;
+    put64(block + AT_IDENTIFIER, likely_identifier(most));
 }
 
 /* The list is laid when it is lent. */
@@ -187,6 +104,11 @@ static inline void set_block(uint8_t code)
     case READ_POSITION:
         block[1] = (uint8_t)(one_in(20) ? draw(32) : draw(2) == 0 ? FORM_SHORT : FORM_LONG);
         break;
+    case SPACE_16:
+        block[1] = (uint8_t)(one_in(20) ? draw(16) : one_in(10) ? TO_END_OF_DATA : draw(2));
+        put64(block + AT_COUNT_16, space_16_count(block[1]));
+        break;
+    case LOCATE_16: set_locate_16(); break;
     default: break;
     }
 }
@@ -198,11 +120,11 @@ static inline uint8_t likely_code(void)
         READ, READ, READ, READ, READ, WRITE, WRITE, WRITE, WRITE, WRITE, WRITE, WRITE_FILEMARKS, WRITE_FILEMARKS,
         SPACE, SPACE, SPACE, SPACE, SPACE, LOCATE, LOCATE, LOCATE, READ_POSITION, READ_POSITION, REQUEST_SENSE,
         REQUEST_SENSE, MODE_SELECT, MODE_SELECT, MODE_SENSE, MODE_SENSE, ERASE, REWIND, REWIND, TEST_UNIT_READY,
-        READ_BLOCK_LIMITS, LOAD_UNLOAD,
+        READ_BLOCK_LIMITS, LOAD_UNLOAD, SPACE_16, SPACE_16, SPACE_16, SPACE_16, LOCATE_16, LOCATE_16, LOCATE_16,
     };
     static int is_reading;
     uint8_t code = one_in(60) ? (uint8_t)draw(256) : codes[draw(COUNT(codes))];
-    int moves = code == READ || code == SPACE || code == LOCATE || code == REWIND;
+    int moves = code == READ || code == SPACE || code == LOCATE || code == REWIND || is_long_move(code);
     if (one_in(15))
         is_reading = !is_reading;
     if (is_reading && changes_cartridge(code) && !one_in(8))
@@ -210,7 +132,9 @@ static inline uint8_t likely_code(void)
     if (!is_reading && moves && !one_in(4))
         code = one_in(4) ? WRITE_FILEMARKS : WRITE;
     /* Where there is nothing to read, another place is mostly sought first. */
-    return code == READ && seen.position == seen.tape.count && !one_in(4) ? LOCATE : code;
+    if (code == READ && seen.position == seen.tape.count && !one_in(4))
+        code = one_in(3) ? LOCATE_16 : LOCATE;
+    return code;
 }
 
 /* Mostly just as long as the code says. Longer by far at times, as only the first bytes count, and a byte short. */
@@ -218,7 +142,7 @@ static inline size_t likely_block_length(void)
 {
     size_t least = block_bytes(block[0]) == 0 ? 1 : block_bytes(block[0]);
     if (one_in(60))
-        return draw(least);
+        return one_in(2) ? least - 1 : draw(least);
     if (one_in(60))
         return 257 + draw(500);
     return one_in(8) ? least + draw(12) : least;
@@ -278,7 +202,7 @@ static inline uint64_t likely_command(void)
 {
     set_block(likely_code());
     if (one_in(40))
-        block[draw(BYTES_10)] ^= (uint8_t)(1 << draw(8));
+        block[draw(is_long_move(block[0]) ? BYTES_16 : BYTES_10)] ^= (uint8_t)(1 << draw(8));
     lend_block(likely_block_length());
     lend_buffers();
     return call_command();

@@ -168,15 +168,53 @@ static inline int reads_meet_from(uint8_t *record, const struct tape *tape, uint
     return 1;
 }
 
-/* From the beginning, reached by LOCATE, or by REWIND if the record is at the partition already. */
-static inline int reads_meet_all(uint8_t *record, const struct tape *tape)
+/* To the beginning, by LOCATE of either length, or by REWIND if the record is at the partition already. */
+static inline void go_to_beginning(uint8_t *record, const struct tape *tape)
 {
     uint8_t immed = (uint8_t)draw(2), partition = (uint8_t)number_of(tape);
     if (record[STORMTOGGLE_RECORD_CURRENT] == partition && one_in(3))
         command_whole(record, (struct bytes)SIX(REWIND, immed, 0), NULL, 0);
+    else if (one_in(3))
+        command_whole(record, (struct bytes)LOCATE_16(CP | immed | TO_OBJECT, 0, partition), NULL, 0);
     else
         command_whole(record, (struct bytes)LOCATE(CP | immed, 0, partition), NULL, 0);
+}
+
+static inline int reads_meet_all(uint8_t *record, const struct tape *tape)
+{
+    go_to_beginning(record, tape);
     return reads_meet_from(record, tape, 0);
+}
+
+/* The number just after so many of the filemarks that stand; the end of data if fewer do. */
+static inline uint32_t start_of_file(const struct tape *tape, uint32_t file)
+{
+    uint32_t number = 0, end = end_of(&tape->history);
+    while (file > 0 && number < end) {
+        const struct event *object = standing(&tape->history.kept, number++);
+        file -= object != NULL && object->kind == PUT_FILEMARK;
+    }
+    return number;
+}
+
+/* From a file, at times from one that is not there: reached by LOCATE (16), or over the filemarks by SPACE (16). */
+static inline int reads_meet_file(uint8_t *record, const struct tape *tape)
+{
+    uint32_t end = end_of(&tape->history), filemarks = 0, file;
+    int by_locate = one_in(2);
+    for (uint32_t k = 0; k < end; k++) {
+        const struct event *object = standing(&tape->history.kept, k);
+        filemarks += object != NULL && object->kind == PUT_FILEMARK;
+    }
+    file = draw(filemarks + 2);
+    happens(file > filemarks ? PAST_FILES_READ : by_locate ? FILES_LOCATED : FILES_SPACED, file > 0);
+    if (by_locate) {
+        command_whole(record, (struct bytes)LOCATE_16(CP | TO_FILE, file, (uint8_t)number_of(tape)), NULL, 0);
+    } else {
+        go_to_beginning(record, tape);
+        command_whole(record, (struct bytes)SPACE_16(FILEMARKS, file), NULL, 0);
+    }
+    return reads_meet_from(record, tape, start_of_file(tape, file));
 }
 
 /* ---- the records that read */
@@ -237,6 +275,8 @@ static inline void compare(void)
     for (unsigned turn = 0; turn < partitions; turn++) {
         const struct tape *tape = &ours[(first + turn) % partitions];
         if (!views_agree(tape) || !reads_meet_all(reading_record, tape))
+            return;
+        if (one_in(8) && !reads_meet_file(reading_record, tape))
             return;
     }
     if (one_in(2))

@@ -67,6 +67,16 @@ static inline void spoil_locate(const struct moment *was, uint8_t *record, const
         put32(record + STORMTOGGLE_RECORD_POSITION, was->drive.position);
 }
 
+/* After a LOCATE (16) to a file, or a SPACE (16) on over filemarks, that came just there. */
+static inline void spoil_long_move(uint8_t *record, const uint8_t *command)
+{
+    uint32_t now = get32(record + STORMTOGGLE_RECORD_POSITION);
+    int to_file = command[0] == LOCATE_16 && (command[1] & DESTINATION) == TO_FILE;
+    int over_marks = command[0] == SPACE_16 && command[1] == FILEMARKS && command[AT_COUNT_16] == 0;
+    if (now > 0 && ((FAULT == 11 && to_file) || (FAULT == 12 && over_marks && get64(command + AT_COUNT_16) > 0)))
+        put32(record + STORMTOGGLE_RECORD_POSITION, now - 1);
+}
+
 static inline void spoil_read(const struct moment *was, uint8_t *record)
 {
     uint32_t now = get32(record + STORMTOGGLE_RECORD_POSITION);
@@ -86,6 +96,8 @@ static inline void spoil(const struct moment *was, uint64_t answer, uint8_t *rec
         spoil_erase(was, record, command);
     } else if (command[0] == LOCATE && told == TOLD_GOOD) {
         spoil_locate(was, record, command, objects_there);
+    } else if ((command[0] == LOCATE_16 || command[0] == SPACE_16) && told == TOLD_GOOD) {
+        spoil_long_move(record, command);
     } else if (command[0] == READ && told == TOLD_FILEMARK) {
         spoil_read(was, record);
     }

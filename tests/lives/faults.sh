@@ -1,5 +1,6 @@
 #!/usr/bin/env bash
-# faults.sh: shows that tests/lives/lives.c can fail: the run of check finds each of ten faults seeded in the services.
+# faults.sh: shows that tests/lives/lives.c can fail: the run of check finds each of twelve faults seeded in the
+# services.
 # LIBRARY names another archive than the one that is built here from the sources.
 set -u
 cd "$(dirname "$0")/../.." || exit 2
@@ -17,5 +18,7 @@ faults=(
     "ERASE leaves the position one beyond N"
     "READ passes the object behind a filemark"
     "LONG zeroes the last byte before the position"
+    "LOCATE (16) to a file stops before its filemark"
+    "SPACE (16) over filemarks stops before the last of them"
 )
 run_with_slips tests/lives/lives.c 200000 "${faults[@]}"

@@ -98,6 +98,18 @@ static inline void set_locate(void)
     block[AT_PARTITION] = (uint8_t)(one_in(12) ? draw(256) : draw(2));
 }
 
+/* The destinations that are served, seldom another, and identifiers that are past the end by their high bytes alone. */
+static inline void set_locate_16(void)
+{
+    static const uint8_t served[] = {TO_OBJECT, TO_OBJECT, TO_FILE, TO_FILE, TO_END};
+    uint8_t *block = latest.block.at;
+    uint64_t number = one_in(4) ? near(seen.objects) : draw(seen.objects + 1);
+    block[1] = (uint8_t)(draw(2) | (one_in(3) ? CP : 0));
+    block[1] |= one_in(20) ? (uint8_t)DESTINED(draw(DESTINATIONS)) : served[draw(COUNT(served))];
+    block[AT_PARTITION_16] = (uint8_t)(one_in(12) ? draw(256) : draw(2));
+    put64(block + AT_IDENTIFIER, one_in(12) ? draw_64() : one_in(16) ? BEYOND_32_BITS + number : number);
+}
+
 /* A mostly lawful block of a served code; all else of it is 0. */
 static inline void set_block(uint8_t code)
 {
@@ -127,6 +139,11 @@ static inline void set_block(uint8_t code)
     case LOAD_UNLOAD: block[AT_LOAD] = one_in(2) ? 0 : LOAD; break;
     case LOCATE: set_locate(); break;
     case READ_POSITION: block[1] = draw(2) == 0 ? FORM_SHORT : FORM_LONG; break;
+    case SPACE_16:
+        block[1] = (uint8_t)(one_in(20) ? draw(16) : one_in(8) ? TO_END_OF_DATA : draw(2));
+        put64(block + AT_COUNT_16, one_in(12) ? draw_64() : draw(15) - UINT64_C(7));
+        break;
+    case LOCATE_16: set_locate_16(); break;
     default: break;
     }
 }
@@ -138,10 +155,13 @@ static inline uint8_t likely_code(void)
         WRITE, WRITE, WRITE, WRITE, WRITE, WRITE, WRITE, WRITE, WRITE, WRITE, WRITE, WRITE, WRITE_FILEMARKS,
         WRITE_FILEMARKS, WRITE_FILEMARKS, WRITE_FILEMARKS, ERASE, ERASE, SPACE, SPACE, SPACE, SPACE, LOCATE,
         LOCATE, LOCATE, LOCATE, LOCATE, REWIND, READ, READ, READ, READ, READ, MODE_SELECT, MODE_SELECT, MODE_SENSE,
-        REQUEST_SENSE, TEST_UNIT_READY, READ_POSITION, READ_BLOCK_LIMITS, LOAD_UNLOAD,
+        REQUEST_SENSE, TEST_UNIT_READY, READ_POSITION, READ_BLOCK_LIMITS, LOAD_UNLOAD, SPACE_16, SPACE_16, SPACE_16,
+        LOCATE_16, LOCATE_16, LOCATE_16,
     };
     uint8_t code = codes[draw(COUNT(codes))];
-    return seen.room < 12 && (code == WRITE || code == WRITE_FILEMARKS) && !one_in(4) ? LOCATE : code;
+    if (seen.room < 12 && (code == WRITE || code == WRITE_FILEMARKS) && !one_in(4))
+        code = one_in(3) ? LOCATE_16 : LOCATE;
+    return code;
 }
 
 /* On a long partition few objects at once. */
@@ -159,7 +179,7 @@ static inline void set_any_block(void)
     struct bytes *block = &latest.block;
     set_block(likely_code());
     if (one_in(40))
-        block->at[draw(BYTES_10)] ^= (uint8_t)(1 << draw(8));
+        block->at[draw(block->at[0] < CODES_OF_16 ? BYTES_10 : BYTES_16)] ^= (uint8_t)(1 << draw(8));
     if (one_in(60))
         memcpy(block->at + one_in(2), some_noise(20), 20);
     if (one_in(80))

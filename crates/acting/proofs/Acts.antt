@@ -10,6 +10,7 @@ use lib.IntN.{ℤ, subℕ}
 use lib.ListN.{length, take}
 use Rattle.words.specs.Words.{over}
 use Rattle.objects.specs.Object.{Object, bytesIn}
+use Rattle.objects.specs.Movement.{Destination}
 use Rattle.objects.specs.Room.{roomOf, zoneIn}
 use Rattle.image.specs.Image.{protected}
 use Rattle.record.specs.declared.drive.Drive.{Drive}
@@ -50,13 +51,13 @@ pub marking-none : (d : Drive) (cmd sent : List ℕ) (v : Seen) → (marking d c
 unfolding marking
 marking-none d cmd sent v = either (eqb (transferOf cmd) 0) _ _ refl (wrote-none d v (transferOf cmd) (goesDown WriteFilemarks d cmd sent v) (subℕ (transferOf cmd) (length (goesDown WriteFilemarks d cmd sent v))))
 
-pub spacing-none : (d : Drive) (cmd : List ℕ) (v : Seen) → (spacing d cmd v) .received ≡ []
+pub spacing-none : (d : Drive) (code : ℕ) (k : ℤ) (v : Seen) → (spacing d code k v) .received ≡ []
 unfolding spacing
-spacing-none d cmd v = refl
+spacing-none d code k v = refl
 
-pub locating-none : (d : Drive) (cmd : List ℕ) (v : Seen) → (locating d cmd v) .received ≡ []
+pub locating-none : (d : Drive) (k : ℕ) (t : Destination) (v : Seen) → (locating d k t v) .received ≡ []
 unfolding locating
-locating-none d cmd v = refl
+locating-none d k t v = refl
 
 pub selecting-none : (d : Drive) (cmd sent : List ℕ) → (selecting d cmd sent) .received ≡ []
 unfolding selecting

@@ -13,7 +13,8 @@ use Rattle.image.specs.Image.{count, sound, protected}
 use Rattle.image.proofs.Facts.{sound-parts}
 use Rattle.record.specs.declared.drive.Drive.{Drive}
 use Rattle.codes.specs.declared.operation.Operation.{Operation}
-use Rattle.codes.specs.declared.operation.Operation.the-variants.{RequestSense, ReadBlockLimits, Read, Write, ModeSelect, ModeSense, Locate, ReadPosition}
+use Rattle.codes.specs.Codes.{numberOf, lengthOf}
+use Rattle.codes.specs.declared.operation.Operation.the-variants.{RequestSense, ReadBlockLimits, Read, Write, ModeSelect, ModeSense, Locate, ReadPosition, Space16, Locate16}
 use Rattle.codes.specs.Fields.{allocationOf}
 use Rattle.commands.specs.Parameters.{listLengthKnown}
 use Rattle.commands.specs.Kinds.{isServed, needsCartridge, locates}
@@ -23,7 +24,7 @@ use Rattle.commands.specs.Call.{seenOf, nothing}
 use Rattle.deeds.specs.Left.{protectedOnly}
 use Rattle.commands.proofs.Passed.{Passed, passed}
 use Rattle.commands.proofs.Replies.{reply-length}
-use Rattle.commands.proofs.Long.{served-long, locate-long}
+use Rattle.commands.proofs.Long.{served-long, long-as}
 use Rattle.acting.specs.Ready.{Free, Ready, ReadyApart}
 use Rattle.acting.proofs.Alike.{tests-alike}
 
@@ -69,8 +70,18 @@ module _ {o : Operation} {d : Drive} {cmd sent : List ℕ} {room : ℕ} where
     pub asks-place : {x : Operation} → o ≡ x → locates x ≡ false → (sound s ≡ true) × (d .position ≤ count s) × (5 ≤ length cmd)
     asks-place q f = (y .whole, there q f, five (y .free))
 
+    -- the block is as long as its command's are
+    reach : (x : Operation) → o ≡ x → isServed x ≡ true → lengthOf (numberOf x) ≤ length cmd
+    reach x q f = long-as x cmd (y .free .long) (sym (y .free .coded) ∙ q) f
+
+    pub asks-space16 : o ≡ Space16 → (sound s ≡ true) × (d .position ≤ count s) × (12 ≤ length cmd)
+    asks-space16 q = (y .whole, there q refl, let l = reach Space16 q refl in omega arith)
+
     pub asks-locate : o ≡ Locate → (sound s ≡ true) × (9 ≤ length cmd)
-    asks-locate q = (y .whole, omega (arith, locate-long cmd (y .free .long) (sym (y .free .coded) ∙ q)))
+    asks-locate q = (y .whole, let l = reach Locate q refl in omega arith)
+
+    pub asks-locate16 : o ≡ Locate16 → (sound s ≡ true) × (12 ≤ length cmd)
+    asks-locate16 q = (y .whole, let l = reach Locate16 q refl in omega arith)
 
     pub asks-position : o ≡ ReadPosition → (sound s ≡ true) × (d .position ≤ count s) × (5 ≤ length cmd) × (length (replyOf ReadPosition d cmd (seenOf s)) ≤ room)
     unfolding needed

@@ -10,7 +10,7 @@ use types.Run.{OneOf}
 use borrow.Author.Needs.{needs}
 use borrow.Enum.Known.{ValuesAt, at, lives-at}
 use Rattle.codes.specs.declared.operation.Operation.{Operation}
-use Rattle.codes.specs.declared.operation.Operation.the-variants.{TestUnitReady, Rewind, RequestSense, ReadBlockLimits, Read, Write, WriteFilemarks, Space, ModeSelect, Erase, ModeSense, LoadUnload, Locate, ReadPosition, NotServed}
+use Rattle.codes.specs.declared.operation.Operation.the-variants.{TestUnitReady, Rewind, RequestSense, ReadBlockLimits, Read, Write, WriteFilemarks, Space, ModeSelect, Erase, ModeSense, LoadUnload, Locate, ReadPosition, Space16, Locate16, NotServed}
 use Rattle.codes.proofs.operation.Operation.{enum, the-type}
 use Rattle.commands.specs.Kinds.{needsCartridge}
 
@@ -34,11 +34,11 @@ abbrev apart : List Operation
 apart = RequestSense ∷ ReadBlockLimits ∷ ModeSelect ∷ ModeSense ∷ []
 
 abbrev others : List Operation
-others = TestUnitReady ∷ Rewind ∷ Read ∷ Write ∷ WriteFilemarks ∷ Space ∷ Erase ∷ LoadUnload ∷ Locate ∷ ReadPosition ∷ NotServed ∷ []
+others = TestUnitReady ∷ Rewind ∷ Read ∷ Write ∷ WriteFilemarks ∷ Space ∷ Erase ∷ LoadUnload ∷ Locate ∷ ReadPosition ∷ Space16 ∷ Locate16 ∷ NotServed ∷ []
 
 module _ (o : Operation) where
   pub told-apart : OneOf (keys apart) (tagOf the-type o) → needsCartridge o ≡ false
   told-apart m = each o needsCartridge false (keys apart) (search needs) m
 
   pub told-others : OneOf (keys others) (tagOf the-type o) → needsCartridge o ≡ true
-  told-others m = each o needsCartridge true (keys others) (λ v. refl, (λ v. refl, (λ v. refl, (λ v. refl, (λ v. refl, (λ v. refl, (λ v. refl, (λ v. refl, (λ v. refl, (λ v. refl, (λ v. refl, tt))))))))))) m
+  told-others m = each o needsCartridge true (keys others) (λ v. refl, (λ v. refl, (λ v. refl, (λ v. refl, (λ v. refl, (λ v. refl, (λ v. refl, (λ v. refl, (λ v. refl, (λ v. refl, (λ v. refl, (λ v. refl, (λ v. refl, tt))))))))))))) m

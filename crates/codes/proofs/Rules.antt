@@ -13,7 +13,7 @@ use lib.Dec.{eqb, leb, ltb}
 use lib.ListN.{length, getD, replicate, getD-replicate}
 use lib.Seq.{getD-take}
 use Rattle.codes.specs.declared.operation.Operation.{Operation}
-use Rattle.codes.specs.declared.operation.Operation.the-variants.{TestUnitReady, Rewind, RequestSense, ReadBlockLimits, Read, Write, WriteFilemarks, Space, ModeSelect, Erase, ModeSense, LoadUnload, Locate, ReadPosition, NotServed}
+use Rattle.codes.specs.declared.operation.Operation.the-variants.{TestUnitReady, Rewind, RequestSense, ReadBlockLimits, Read, Write, WriteFilemarks, Space, ModeSelect, Erase, ModeSense, LoadUnload, Locate, ReadPosition, Space16, Locate16, NotServed}
 use Rattle.codes.specs.Codes.{lengthOf, codeOf, tooShort, numberOf, Row, rows, noRow, find, rowOf, operationOf, masksOf, maskCount, spread, inMasks, masksHold}
 use Rattle.codes.proofs.Table.{tab, rule}
 
@@ -155,4 +155,6 @@ operation-number ModeSense = refl
 operation-number LoadUnload = refl
 operation-number Locate = refl
 operation-number ReadPosition = refl
+operation-number Space16 = refl
+operation-number Locate16 = refl
 operation-number NotServed = refl

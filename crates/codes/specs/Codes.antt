@@ -1,4 +1,4 @@
--- The lengths of command blocks, the commands served and the masks of their bytes (01, "Command lengths and masks").
+-- The lengths of command blocks, the commands served and the masks of their bytes (01, "Command lengths and masks"; Q-1).
 -- Assumes nothing: these are definitions.
 use mathlib.Core.Bool.{Bool, true, cond, _&&_, _||_}
 use mathlib.Core.List.{List, [], _∷_, _++_}
@@ -7,7 +7,7 @@ use lib.Bits.{bitAnd}
 use lib.Dec.{eqb, ltb}
 use lib.ListN.{length, getD, take, replicate}
 use Rattle.codes.specs.declared.operation.Operation.{Operation}
-use Rattle.codes.specs.declared.operation.Operation.the-variants.{TestUnitReady, Rewind, RequestSense, ReadBlockLimits, Read, Write, WriteFilemarks, Space, ModeSelect, Erase, ModeSense, LoadUnload, Locate, ReadPosition, NotServed}
+use Rattle.codes.specs.declared.operation.Operation.the-variants.{TestUnitReady, Rewind, RequestSense, ReadBlockLimits, Read, Write, WriteFilemarks, Space, ModeSelect, Erase, ModeSense, LoadUnload, Locate, ReadPosition, Space16, Locate16, NotServed}
 
 -- 00–1F 6, 20–5F 10, 80–9F 16, A0–BF 12, others 0
 abbrev pub lengthOf : ℕ → ℕ
@@ -39,6 +39,8 @@ numberOf ModeSense = 0x1A
 numberOf LoadUnload = 0x1B
 numberOf Locate = 0x2B
 numberOf ReadPosition = 0x34
+numberOf Space16 = 0x91
+numberOf Locate16 = 0x92
 numberOf NotServed = 0x100
 
 -- a command, and the masks of its bytes from byte 1 on: byte:bits, others 00
@@ -49,7 +51,7 @@ pub record Row : Type 0 where
 abbrev pub row : Operation → List ℕ → Row
 row o m = record { operation = o; masks = m }
 
--- one line a command, as 01 writes them
+-- one line a command, as 01 and 02 write them
 abbrev pub rows : List Row
 rows =
     -- 00 TEST UNIT READY none
@@ -80,6 +82,10 @@ rows =
     row Locate (0x03 ∷ 0x00 ∷ 0xFF ∷ 0xFF ∷ 0xFF ∷ 0xFF ∷ 0x00 ∷ 0xFF ∷ []) ∷
     -- 34 READ POSITION 1:1F
     row ReadPosition (0x1F ∷ []) ∷
+    -- Q-1: 91 SPACE (16) 1:0F 4–11:FF
+    row Space16 (0x0F ∷ 0x00 ∷ 0x00 ∷ 0xFF ∷ 0xFF ∷ 0xFF ∷ 0xFF ∷ 0xFF ∷ 0xFF ∷ 0xFF ∷ 0xFF ∷ []) ∷
+    -- Q-1: 92 LOCATE (16) 1:3B 3–11:FF
+    row Locate16 (0x3B ∷ 0x00 ∷ 0xFF ∷ 0xFF ∷ 0xFF ∷ 0xFF ∷ 0xFF ∷ 0xFF ∷ 0xFF ∷ 0xFF ∷ 0xFF ∷ []) ∷
     []
 
 -- "operation code not served"

@@ -1,4 +1,4 @@
--- The fields of the command blocks, by the bits that 01 gives them (01, "What each command does").
+-- The fields of the command blocks, by the bits that 01 gives them (01, "What each command does"), and 02 those of sixteen bytes (Q-1).
 -- Assumes nothing: these are definitions.
 use mathlib.Core.Bool.{Bool}
 use mathlib.Core.List.{List}
@@ -30,6 +30,10 @@ spaceCodeOf cmd = getD cmd 1 0 % 2 ^ 4
 unfoldable pub spaceCountOf : List ℕ → ℤ
 spaceCountOf cmd = signed (2 ^ 23) (be 3 cmd 2)
 
+-- SPACE (16): "an eight-byte signed count in bytes 4–11"
+unfoldable pub spaceCount16Of : List ℕ → ℤ
+spaceCount16Of cmd = signed (2 ^ 63) (be 8 cmd 4)
+
 -- ERASE: LONG
 unfoldable pub longOf : List ℕ → Bool
 longOf cmd = bit (getD cmd 1 0) 0
@@ -43,6 +47,16 @@ objectOf cmd = be 4 cmd 3
 
 unfoldable pub partitionOf : List ℕ → ℕ
 partitionOf cmd = getD cmd 8 0
+
+-- LOCATE (16), by table 65 of source document 000: destination in bits 5–3 of byte 1, partition in byte 3, identifier in bytes 4–11
+unfoldable pub destinationOf : List ℕ → ℕ
+destinationOf cmd = getD cmd 1 0 / 2 ^ 3 % 2 ^ 3
+
+unfoldable pub partition16Of : List ℕ → ℕ
+partition16Of cmd = getD cmd 3 0
+
+unfoldable pub identifierOf : List ℕ → ℕ
+identifierOf cmd = be 8 cmd 4
 
 -- LOAD UNLOAD: LOAD, bit 0 of byte 4
 unfoldable pub loadOf : List ℕ → Bool

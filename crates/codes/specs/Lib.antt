@@ -1,3 +1,4 @@
 pub mod Codes
 pub mod Fields
 pub mod Six
+pub mod Sixteen

@@ -2,10 +2,12 @@
 ghost use mathlib.Core.Path.{_≡_};
 ghost use Prim.Native.Nat.{_≤_};
 ghost use lib.ListN.{length};
-ghost use Rattle.codes.specs.Fields.{fixedOf, siliOf, transferOf, spaceCodeOf, spaceCountOf, longOf, changesPartition, objectOf, partitionOf, loadOf, formOf, dbdOf, pageOf, pfOf, allocationOf};
+ghost use Rattle.codes.specs.Fields.{fixedOf, siliOf, transferOf, spaceCodeOf, spaceCountOf, spaceCount16Of, longOf, changesPartition, objectOf, partitionOf, destinationOf, partition16Of, identifierOf, loadOf, formOf, dbdOf, pageOf, pfOf, allocationOf};
 use words::be24_at;
 use words::be32_at;
+use words::be64_at;
 use words::signed24;
+use words::signed64;
 
 // FIXED, of READ and WRITE.
 pub fn fixed(cmd: &[u8]) -> bool
@@ -40,11 +42,19 @@ pub fn space_code(cmd: &[u8]) -> u8
 }
 
 // The count of SPACE.
-pub fn space_count(cmd: &[u8]) -> i32
+pub fn space_count(cmd: &[u8]) -> i64
     requires { ⌜ 5 ≤ length (now cmd) ⌝ }
     ensures { λ r. ⌜ r ≡ spaceCountOf (now (cmd .entry)) ⌝ }
 {
     signed24(be24_at(cmd, 2))
+}
+
+// The count of SPACE (16).
+pub fn space_count16(cmd: &[u8]) -> i64
+    requires { ⌜ 12 ≤ length (now cmd) ⌝ }
+    ensures { λ r. ⌜ r ≡ spaceCount16Of (now (cmd .entry)) ⌝ }
+{
+    signed64(be64_at(cmd, 4))
 }
 
 // LONG, of ERASE.
@@ -77,6 +87,30 @@ pub fn partition(cmd: &[u8]) -> u8
     ensures { λ r. ⌜ r ≡ partitionOf (now (cmd .entry)) ⌝ }
 {
     cmd[8]
+}
+
+// The destination of LOCATE (16).
+pub fn destination(cmd: &[u8]) -> u8
+    requires { ⌜ 2 ≤ length (now cmd) ⌝ }
+    ensures { λ r. ⌜ r ≡ destinationOf (now (cmd .entry)) ⌝ }
+{
+    cmd[1] >> 3 & 0x07
+}
+
+// The partition of LOCATE (16).
+pub fn partition16(cmd: &[u8]) -> u8
+    requires { ⌜ 4 ≤ length (now cmd) ⌝ }
+    ensures { λ r. ⌜ r ≡ partition16Of (now (cmd .entry)) ⌝ }
+{
+    cmd[3]
+}
+
+// The identifier of LOCATE (16).
+pub fn identifier(cmd: &[u8]) -> u64
+    requires { ⌜ 12 ≤ length (now cmd) ⌝ }
+    ensures { λ r. ⌜ r ≡ identifierOf (now (cmd .entry)) ⌝ }
+{
+    be64_at(cmd, 4)
 }
 
 // LOAD, of LOAD UNLOAD.

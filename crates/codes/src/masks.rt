@@ -1,4 +1,4 @@
-// The table of masks: a constant row for each served command, the masks of its bytes 1 to 15 as document 01 lists them.
+// The table of masks: a constant row for each served command, the masks of its bytes 1 to 15 as documents 01 and 02 list them.
 pub const WIDTH: usize = 15;
 
 // Every bit may be set.
@@ -48,3 +48,9 @@ pub const LOCATE_MASKS: [u8; WIDTH] = [0x03, 0, FF, FF, FF, FF, 0, FF, 0, 0, 0, 
 
 // 34 READ POSITION 1:1F
 pub const READ_POSITION_MASKS: [u8; WIDTH] = [0x1f, 0, 0, 0, 0, 0, 0, 0, 0, 0, 0, 0, 0, 0, 0];
+
+// 91 SPACE (16) 1:0F 4–11:FF
+pub const SPACE_16_MASKS: [u8; WIDTH] = [0x0f, 0, 0, FF, FF, FF, FF, FF, FF, FF, FF, 0, 0, 0, 0];
+
+// 92 LOCATE (16) 1:3B 3–11:FF
+pub const LOCATE_16_MASKS: [u8; WIDTH] = [0x3b, 0, FF, FF, FF, FF, FF, FF, FF, FF, FF, 0, 0, 0, 0];

@@ -34,6 +34,10 @@ pub const LOCATE: u16 = 0x2b;
 
 pub const READ_POSITION: u16 = 0x34;
 
+pub const SPACE_16: u16 = 0x91;
+
+pub const LOCATE_16: u16 = 0x92;
+
 pub const NOT_SERVED: u16 = 0x100;
 
 pub enum Operation {
@@ -51,6 +55,8 @@ pub enum Operation {
     LoadUnload,
     Locate,
     ReadPosition,
+    Space16,
+    Locate16,
     NotServed,
 }
 
@@ -82,6 +88,8 @@ pub fn operation_of(op: u8) -> Operation
         LOAD_UNLOAD => Operation::LoadUnload,
         LOCATE => Operation::Locate,
         READ_POSITION => Operation::ReadPosition,
+        SPACE_16 => Operation::Space16,
+        LOCATE_16 => Operation::Locate16,
         _ => Operation::NotServed,
     }
 }
@@ -106,6 +114,8 @@ pub fn masks_of(op: u8) -> [u8; WIDTH]
         LOAD_UNLOAD => masks::LOAD_UNLOAD_MASKS,
         LOCATE => masks::LOCATE_MASKS,
         READ_POSITION => masks::READ_POSITION_MASKS,
+        SPACE_16 => masks::SPACE_16_MASKS,
+        LOCATE_16 => masks::LOCATE_16_MASKS,
         _ => masks::NO_MASKS,
     }
 }
@@ -129,6 +139,8 @@ pub fn number_of(o: Operation) -> u16
         Operation::LoadUnload => LOAD_UNLOAD,
         Operation::Locate => LOCATE,
         Operation::ReadPosition => READ_POSITION,
+        Operation::Space16 => SPACE_16,
+        Operation::Locate16 => LOCATE_16,
         Operation::NotServed => NOT_SERVED,
     }
 }

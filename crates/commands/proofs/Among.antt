@@ -7,8 +7,11 @@ use Prim.Native.Nat.{ℕ}
 use borrow.Author.Tests.{eq-eqb, ne-eqb}
 use lib.Dec.{eqb}
 use Rattle.codes.specs.declared.operation.Operation.{Operation}
+use Rattle.codes.specs.declared.operation.Operation.the-variants.{Locate16}
 use Rattle.codes.specs.Codes.{numberOf}
+use Rattle.codes.specs.Fields.{partitionOf, partition16Of}
 use Rattle.commands.specs.Kinds.{among}
+use Rattle.commands.specs.Act.{namedPartition}
 
 module _ (o x : Operation) (n : ℕ) (e : n ≡ numberOf o) where
   pub found : (xs : List Operation) → n ≡ numberOf x → true ≡ among (x ∷ xs) o
@@ -26,3 +29,11 @@ module _ (o x : Operation) (n : ℕ) (e : n ≡ numberOf o) where
 
   pub last : eqb n (numberOf x) ≡ among (x ∷ []) o
   last = rw (← e) (itself (eqb n (numberOf x)))
+
+-- the partition that LOCATE names, by the number of the operation
+module _ (o : Operation) (n : ℕ) (e : n ≡ numberOf o) (cmd : List ℕ) (k : ℕ) where
+  pub named-long : n ≡ numberOf Locate16 → k ≡ partition16Of cmd → k ≡ namedPartition o cmd
+  named-long h q = rw (← e, eq-eqb n (numberOf Locate16) h) q
+
+  pub named-short : (n ≡ numberOf Locate16 → ⊥) → k ≡ partitionOf cmd → k ≡ namedPartition o cmd
+  named-short h q = rw (← e, ne-eqb n (numberOf Locate16) h) q

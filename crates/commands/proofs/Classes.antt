@@ -1,5 +1,5 @@
 -- The three operations that write a partition, and all others: these offer nothing, cause no event, and leave every partition as it was; and the four that need no
--- cartridge. Two classifications, for every proof that goes through the operations.
+-- cartridge, and the two that locate. Three classifications, for every proof that goes through the operations.
 -- Assumes nothing.
 use Prim.Native.Nat.{ℕ}
 use native.Mathlib.Omega.{arith}
@@ -11,7 +11,7 @@ use lib.Dec.{eqb}
 use Rattle.changes.specs.Changes.{occurs}
 use Rattle.record.specs.declared.drive.Drive.{Drive}
 use Rattle.codes.specs.declared.operation.Operation.{Operation}
-use Rattle.codes.specs.declared.operation.Operation.the-variants.{RequestSense, ReadBlockLimits, Write, WriteFilemarks, ModeSelect, Erase, ModeSense}
+use Rattle.codes.specs.declared.operation.Operation.the-variants.{RequestSense, ReadBlockLimits, Write, WriteFilemarks, ModeSelect, Erase, ModeSense, Locate, Locate16}
 use Rattle.codes.specs.Codes.{numberOf, operationOf}
 use Rattle.codes.proofs.Rules.{operation-number}
 use Rattle.objects.specs.Transfer.{fitting, putFrom}
@@ -79,6 +79,23 @@ not-locate o h = go (classify o) h
     go (filemarks e) h = rw e refl
     go (erasing e) h = rw e refl
     go (quiet q) h = absurd (let x : true ≡ false = sym h ∙ q in let z : _≡_ {A = ℕ} 0 1 = cc in omega arith)
+
+-- ---- LOCATE, of either length
+
+pub data Locating (o : Operation) : Type 0 where
+  by-ten : o ≡ Locate → Locating o
+  by-sixteen : o ≡ Locate16 → Locating o
+
+pub which-locate : (o : Operation) → locates o ≡ true → Locating o
+which-locate o h = go (eqb (numberOf o) (numberOf Locate)) (eqb (numberOf o) (numberOf Locate16)) refl refl h
+  where
+    is : (x : Operation) → eqb (numberOf o) (numberOf x) ≡ true → o ≡ x
+    is x e = named o x (numberOf o) refl (eqb-true (numberOf o) (numberOf x) e)
+
+    go : (a b : Bool) → eqb (numberOf o) (numberOf Locate) ≡ a → eqb (numberOf o) (numberOf Locate16) ≡ b → cond a true (cond b true false) ≡ true → Locating o
+    go true b ea eb h = by-ten (is Locate ea)
+    go false true ea eb h = by-sixteen (is Locate16 eb)
+    go false false ea eb h = absurd (let z : _≡_ {A = ℕ} 0 1 = cc in omega arith)
 
 -- ---- the four that need no cartridge
 

@@ -17,13 +17,14 @@ use Rattle.image.specs.Image.{count, protected, sound, rightLength, absent}
 use Rattle.record.specs.declared.drive.Drive.{Drive}
 use Rattle.record.specs.Record.{recordLength, noAttention, decodeOf, wellFormed, wellRecord}
 use Rattle.codes.specs.declared.operation.Operation.{Operation}
-use Rattle.codes.specs.declared.operation.Operation.the-variants.{RequestSense, ReadBlockLimits, Write, WriteFilemarks, ModeSelect, Erase, ModeSense, Locate, NotServed}
+use Rattle.codes.specs.declared.operation.Operation.the-variants.{RequestSense, ReadBlockLimits, Write, WriteFilemarks, ModeSelect, Erase, ModeSense, Locate, Locate16, NotServed}
 use Rattle.codes.specs.Codes.{numberOf, lengthOf, codeOf, tooShort, operationOf, masksHold}
-use Rattle.codes.specs.Fields.{changesPartition, partitionOf, allocationOf}
+use Rattle.codes.specs.Fields.{changesPartition, allocationOf}
 use Rattle.codes.proofs.Rules.{operation-number}
 use Rattle.commands.specs.Stop.{Stop, refuse, attend, fault}
 use Rattle.commands.specs.Kinds.{among, passesAttention, isServed, needsCartridge, locates, writes}
 use Rattle.commands.specs.Parameters.{headerLength, wholeLength, listLengthKnown}
+use Rattle.commands.specs.Act.{namedPartition}
 use Rattle.commands.specs.Tests.{fieldError, taken, needed, tests}
 use Rattle.commands.specs.Step.{stopped, acted}
 use Rattle.commands.specs.Call.{Lent, Result, result, partition, looksAt, seenOf, seen, inserted, faulty, applied, commandCall, commandTests}
@@ -180,8 +181,8 @@ module _ (rec : List ℕ) (x : Lent) where
       (no-test _ (one-test o RequestSense (ReadBlockLimits ∷ ModeSelect ∷ ModeSense ∷ []) (one-test o ReadBlockLimits (ModeSelect ∷ ModeSense ∷ []) (one-test o ModeSelect (ModeSense ∷ []) (is-test o ModeSense)))))
       (same-test (d .loaded) 0)
 
-  partition-test : Decides (locates o && changesPartition (x .cmd) && leb (d .partitions) (partitionOf (x .cmd))) (NoSuchPartition rec x)
-  partition-test = and-three _ _ _ (is-test o Locate) (true-test (changesPartition (x .cmd))) (most-test (d .partitions) (partitionOf (x .cmd)))
+  partition-test : Decides (locates o && changesPartition (x .cmd) && leb (d .partitions) (namedPartition o (x .cmd))) (NoSuchPartition rec x)
+  partition-test = and-three _ _ _ (one-test o Locate (Locate16 ∷ []) (is-test o Locate16)) (true-test (changesPartition (x .cmd))) (most-test (d .partitions) (namedPartition o (x .cmd)))
 
   kind-test : Decides (writes o) ((o ≡ Write) ⊎ ((o ≡ WriteFilemarks) ⊎ (o ≡ Erase)))
   kind-test = one-test o Write (WriteFilemarks ∷ Erase ∷ []) (one-test o WriteFilemarks (Erase ∷ []) (is-test o Erase))

@@ -9,10 +9,11 @@ use borrow.Author.Tests.{leb-true}
 use lib.Dec.{eqb, leb}
 use lib.ListN.{length}
 use Rattle.codes.specs.declared.operation.Operation.{Operation}
-use Rattle.codes.specs.declared.operation.Operation.the-variants.{Locate}
+use Rattle.codes.specs.declared.operation.Operation.the-variants.{Locate, Locate16}
 use Rattle.codes.specs.Codes.{lengthOf, codeOf, tooShort, numberOf, Row, rows, find, rowOf, operationOf}
 use Rattle.codes.proofs.Rules.{long-enough, Found, here, nowhere, found}
-use Rattle.commands.specs.Kinds.{isServed}
+use Rattle.commands.specs.Kinds.{isServed, locates}
+use Rattle.commands.proofs.Classes.{Locating, by-ten, by-sixteen, which-locate}
 
 -- ---- a row is found by the number of its operation
 
@@ -57,7 +58,14 @@ long cmd h s = subst (λ (n : ℕ). lengthOf n ≤ length cmd) (sym (code-number
 pub served-long : (cmd : List ℕ) → tooShort cmd ≡ false → isServed (operationOf (codeOf cmd)) ≡ true → 6 ≤ length cmd
 served-long cmd h s = omega (arith, six (codeOf cmd) s, long cmd h s)
 
-pub locate-long : (cmd : List ℕ) → tooShort cmd ≡ false → operationOf (codeOf cmd) ≡ Locate → 10 ≤ length cmd
-locate-long cmd h e =
-    let s : isServed (operationOf (codeOf cmd)) ≡ true = ap isServed e in
-    subst (λ (o : Operation). lengthOf (numberOf o) ≤ length cmd) e (long cmd h s)
+-- and that of the command o, as many bytes as it has
+pub long-as : (o : Operation) (cmd : List ℕ) → tooShort cmd ≡ false → operationOf (codeOf cmd) ≡ o → isServed o ≡ true → lengthOf (numberOf o) ≤ length cmd
+long-as o cmd h e s = subst (λ (k : Operation). lengthOf (numberOf k) ≤ length cmd) e (long cmd h (ap isServed e ∙ s))
+
+-- LOCATE of either length has ten at least
+pub locate-long : (cmd : List ℕ) → tooShort cmd ≡ false → locates (operationOf (codeOf cmd)) ≡ true → 10 ≤ length cmd
+locate-long cmd h l = go (which-locate (operationOf (codeOf cmd)) l)
+  where
+    go : Locating (operationOf (codeOf cmd)) → 10 ≤ length cmd
+    go (by-ten e) = long-as Locate cmd h e refl
+    go (by-sixteen e) = let w = long-as Locate16 cmd h e refl in omega arith

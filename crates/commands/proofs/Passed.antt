@@ -13,12 +13,12 @@ use Rattle.record.specs.declared.drive.Drive.{Drive}
 use Rattle.codes.specs.declared.operation.Operation.{Operation}
 use Rattle.codes.specs.declared.operation.Operation.the-variants.{ModeSelect}
 use Rattle.codes.specs.Codes.{masksHold}
-use Rattle.codes.specs.Fields.{allocationOf, changesPartition, partitionOf}
+use Rattle.codes.specs.Fields.{allocationOf, changesPartition}
 use Rattle.commands.specs.Parameters.{listLengthKnown}
 use Rattle.commands.specs.Stop.{Stop}
 use Rattle.answers.specs.Answers.{first}
 use Rattle.commands.specs.Kinds.{among, isServed, needsCartridge, locates}
-use Rattle.commands.specs.Act.{Seen}
+use Rattle.commands.specs.Act.{Seen, namedPartition}
 use Rattle.commands.specs.Tests.{tests, taken, needed, fieldError}
 
 -- none of the tests holds
@@ -44,7 +44,7 @@ pub record Passed (o : Operation) (d : Drive) (cmd : List ℕ) (v : Seen) (sent 
   pub fields : fieldError o d cmd ≡ false
   pub list : among (ModeSelect ∷ []) o && not (listLengthKnown (allocationOf cmd)) ≡ false
   pub ready : needsCartridge o && eqb (d .loaded) 0 ≡ false
-  pub there : locates o && changesPartition cmd && leb (d .partitions) (partitionOf cmd) ≡ false
+  pub there : locates o && changesPartition cmd && leb (d .partitions) (namedPartition o cmd) ≡ false
   pub sends : taken o d cmd ≤ length sent
   pub receives : needed o d cmd ≤ room
 

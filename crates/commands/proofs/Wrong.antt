@@ -11,8 +11,8 @@ use lib.Dec.{eqb, ltb}
 use lib.ListN.{length}
 use Rattle.objects.specs.Object.{largestBlock}
 use Rattle.record.specs.declared.drive.Drive.{Drive}
-use Rattle.codes.specs.declared.operation.Operation.the-variants.{Read, Write, Space, ModeSelect, ModeSense, ReadPosition}
-use Rattle.codes.specs.Fields.{fixedOf, siliOf, transferOf, spaceCodeOf, formOf, pageOf, pfOf}
+use Rattle.codes.specs.declared.operation.Operation.the-variants.{Read, Write, Space, ModeSelect, ModeSense, ReadPosition, Space16, Locate16}
+use Rattle.codes.specs.Fields.{fixedOf, siliOf, transferOf, spaceCodeOf, destinationOf, formOf, pageOf, pfOf}
 use Rattle.commands.specs.Tests.{bytesAsked, fieldError}
 
 -- a product of two numbers of 32 bits has 64
@@ -67,6 +67,25 @@ module _ (d : Drive) (cmd : List ℕ) where
       pub space-last : (k ≡ 1 → ⊥) → not (eqb k 3) ≡ fieldError Space d cmd
       unfolding fieldError
       space-last h = rw (← e, ne-eqb k 0 z, ne-eqb k 1 h) refl
+
+  -- SPACE of either length looks at its code alone
+  pub space-alike : fieldError Space d cmd ≡ fieldError Space16 d cmd
+  unfolding fieldError
+  space-alike = refl
+
+  module _ (k : ℕ) (e : k ≡ destinationOf cmd) where
+    pub locate-object : k ≡ 0 → false ≡ fieldError Locate16 d cmd
+    unfolding fieldError
+    locate-object h = rw (← e, eq-eqb k 0 h) refl
+
+    module _ (z : k ≡ 0 → ⊥) where
+      pub locate-file : k ≡ 1 → false ≡ fieldError Locate16 d cmd
+      unfolding fieldError
+      locate-file h = rw (← e, ne-eqb k 0 z, eq-eqb k 1 h) refl
+
+      pub locate-last : (k ≡ 1 → ⊥) → not (eqb k 3) ≡ fieldError Locate16 d cmd
+      unfolding fieldError
+      locate-last h = rw (← e, ne-eqb k 0 z, ne-eqb k 1 h) refl
 
   pub select-wrong : (f : Bool) → f ≡ pfOf cmd → not f ≡ fieldError ModeSelect d cmd
   unfolding fieldError

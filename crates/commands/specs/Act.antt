@@ -19,8 +19,8 @@ use Rattle.sense.specs.Sense.{noSense, illegalRequest, blankCheck, volumeOverfl
 use Rattle.record.specs.declared.drive.Drive.{Drive}
 use Rattle.record.specs.Record.{noAttention, drive, holding, loadedAnew, unloaded}
 use Rattle.codes.specs.declared.operation.Operation.{Operation}
-use Rattle.codes.specs.declared.operation.Operation.the-variants.{TestUnitReady, Rewind, RequestSense, ReadBlockLimits, Read, Write, WriteFilemarks, Space, ModeSelect, Erase, ModeSense, LoadUnload, Locate, ReadPosition, NotServed}
-use Rattle.codes.specs.Fields.{fixedOf, siliOf, transferOf, spaceCodeOf, spaceCountOf, changesPartition, objectOf, partitionOf, loadOf, formOf, dbdOf, allocationOf}
+use Rattle.codes.specs.declared.operation.Operation.the-variants.{TestUnitReady, Rewind, RequestSense, ReadBlockLimits, Read, Write, WriteFilemarks, Space, ModeSelect, Erase, ModeSense, LoadUnload, Locate, ReadPosition, Space16, Locate16, NotServed}
+use Rattle.codes.specs.Fields.{fixedOf, siliOf, transferOf, spaceCodeOf, spaceCountOf, spaceCount16Of, changesPartition, objectOf, partitionOf, destinationOf, partition16Of, identifierOf, loadOf, formOf, dbdOf, allocationOf}
 use Rattle.commands.specs.Kinds.{among, erases}
 use Rattle.objects.specs.Transfer.{Ended, whole, oddLength, atFilemark, atEnd, Run, runOf, blocksOf, marksOf, fitting, putFrom}
 use Rattle.commands.specs.Parameters.{blockLimits, modeData, wholeLength, listRight, newLength, shortPosition, longPosition}
@@ -202,31 +202,46 @@ overFilemarks = 1
 abbrev pub toEnd : ℕ
 toEnd = 3
 
-unfoldable pub movement : List ℕ → ℕ → List Object → M.Move
-movement cmd p xs =
-    cond (eqb (spaceCodeOf cmd) toEnd) (M.toEndOfData p xs)
-    (M.space (cond (eqb (spaceCodeOf cmd) overBlocks) M.blocks M.filemarks) (spaceCountOf cmd) p xs)
+unfoldable pub movement : ℕ → ℤ → ℕ → List Object → M.Move
+movement code k p xs = cond (eqb code toEnd) (M.toEndOfData p xs) (M.space (cond (eqb code overBlocks) M.blocks M.filemarks) k p xs)
 
-unfoldable pub spacing : Drive → List ℕ → Seen → Deed
-spacing d cmd v = moved d v (spaceCountOf cmd) (movement cmd (d .position) (v .objects))
+-- by the count k; Q-1: SPACE (16) has "the codes served today", and differs in how it spells its count alone
+unfoldable pub spacing : Drive → ℕ → ℤ → Seen → Deed
+spacing d code k v = moved d v k (movement code k (d .position) (v .objects))
 
 -- ---- LOCATE
 
--- the partition: "byte 8 partition if bit 1 (CP), else ignored"
-unfoldable pub targetOf : Drive → List ℕ → ℕ
-targetOf d cmd = cond (changesPartition cmd) (partitionOf cmd) (d .current)
+-- the partition: "byte 8 partition if bit 1 (CP), else ignored"; of LOCATE (16) in byte 3 (Q-1: "partition as in LOCATE")
+abbrev pub namedPartition : Operation → List ℕ → ℕ
+namedPartition o cmd = cond (among (Locate16 ∷ []) o) (partition16Of cmd) (partitionOf cmd)
 
--- "Above N: 8/00/05, EOM 0"
+unfoldable pub targetOf : Operation → Drive → List ℕ → ℕ
+targetOf o d cmd = cond (changesPartition cmd) (namedPartition o cmd) (d .current)
+
+-- Q-1: destinations 0 object, 1 file, 3 end of data
+abbrev pub byObject : ℕ
+byObject = 0
+
+abbrev pub byFile : ℕ
+byFile = 1
+
+abbrev pub byEnd : ℕ
+byEnd = 3
+
+unfoldable pub destination16 : List ℕ → M.Destination
+destination16 cmd = cond (eqb (destinationOf cmd) byFile) (M.file (identifierOf cmd)) (cond (eqb (destinationOf cmd) byEnd) M.endOfData (M.object (identifierOf cmd)))
+
+-- "Above N: 8/00/05, EOM 0"; Q-1: "an identifier past what exists is 8/00/05 at end of data"
 unfoldable pub locateTells : Seen → M.Why → Option Sense
 locateTells v M.done = none
 locateTells v M.marked = none
 locateTells v M.edge = some (endTold false v (pos 0))
 
 -- ".. at N of the target (H)": v is what is seen of the target, on which it moves from the position, or from the beginning of another partition
-unfoldable pub locating : Drive → List ℕ → Seen → Deed
-locating d cmd v =
-    let k = targetOf d cmd in
-    let m = M.toObject (cond (eqb k (d .current)) (d .position) 0) (objectOf cmd) (v .objects) in
+-- to the destination t of partition k
+unfoldable pub locating : Drive → ℕ → M.Destination → Seen → Deed
+locating d k t v =
+    let m = M.locate t (cond (eqb k (d .current)) (d .position) 0) (v .objects) in
     record { drive = atPartition d k (m .to); tells = locateTells v (m .why); received = []; carried = 0 }
 
 -- ---- MODE SELECT
@@ -274,14 +289,16 @@ act ReadBlockLimits d cmd sent v = giving (replyOf ReadBlockLimits d cmd v) (goo
 act Read d cmd sent v = reading d cmd v
 act Write d cmd sent v = writing d cmd sent v
 act WriteFilemarks d cmd sent v = marking d cmd sent v
-act Space d cmd sent v = spacing d cmd v
+act Space d cmd sent v = spacing d (spaceCodeOf cmd) (spaceCountOf cmd) v
 act ModeSelect d cmd sent v = selecting d cmd sent
 -- "N becomes the position, D follows; .. Position stays."
 act Erase d cmd sent v = good d
 act ModeSense d cmd sent v = giving (replyOf ModeSense d cmd v) (good d)
 act LoadUnload d cmd sent v = good (cond (loadOf cmd) (loadedAnew d) (unloaded d))
-act Locate d cmd sent v = locating d cmd v
+act Locate d cmd sent v = locating d (targetOf Locate d cmd) (M.object (objectOf cmd)) v
 act ReadPosition d cmd sent v = giving (replyOf ReadPosition d cmd v) (good d)
+act Space16 d cmd sent v = spacing d (spaceCodeOf cmd) (spaceCount16Of cmd) v
+act Locate16 d cmd sent v = locating d (targetOf Locate16 d cmd) (destination16 cmd) v
 act NotServed d cmd sent v = good d
 
 -- ---- the events that it causes on the partition: ERASE cuts at the position; all else puts what goes down

@@ -42,7 +42,7 @@ partition k p0 p1 = cond (eqb k 1) p1 p0
 
 -- LOCATE looks at its target, all else at the current partition
 unfoldable pub looksAt : Operation → Drive → List ℕ → ℕ
-looksAt o d cmd = cond (locates o) (targetOf d cmd) (d .current)
+looksAt o d cmd = cond (locates o) (targetOf o d cmd) (d .current)
 
 unfoldable pub seenOf : List ℕ → Seen
 seenOf p = record { size = length p; guarded = protected p; objects = objects p }

@@ -11,10 +11,11 @@ use Rattle.image.specs.Image.{count, protected, sound}
 use Rattle.record.specs.declared.drive.Drive.{Drive}
 use Rattle.record.specs.Record.{recordLength, noAttention, decodeOf, wellFormed}
 use Rattle.codes.specs.declared.operation.Operation.{Operation}
-use Rattle.codes.specs.declared.operation.Operation.the-variants.{RequestSense, ReadBlockLimits, Write, WriteFilemarks, ModeSelect, Erase, ModeSense, Locate, NotServed}
+use Rattle.codes.specs.declared.operation.Operation.the-variants.{RequestSense, ReadBlockLimits, Write, WriteFilemarks, ModeSelect, Erase, ModeSense, Locate, Locate16, NotServed}
 use Rattle.codes.specs.Codes.{lengthOf, codeOf, operationOf, masksHold}
-use Rattle.codes.specs.Fields.{changesPartition, partitionOf, allocationOf}
+use Rattle.codes.specs.Fields.{changesPartition, allocationOf}
 use Rattle.commands.specs.Parameters.{headerLength, wholeLength}
+use Rattle.commands.specs.Act.{namedPartition}
 use Rattle.commands.specs.Tests.{fieldError, taken, needed}
 use Rattle.commands.specs.Call.{Lent, partition}
 
@@ -80,7 +81,7 @@ module _ (rec : List ℕ) (x : Lent) where
 
   -- "LOCATE's partition number (5/24/00)"
   abbrev pub NoSuchPartition : Type 0
-  NoSuchPartition = (o ≡ Locate) × ((changesPartition (x .cmd) ≡ true) × (d .partitions ≤ partitionOf (x .cmd)))
+  NoSuchPartition = ((o ≡ Locate) ⊎ (o ≡ Locate16)) × ((changesPartition (x .cmd) ≡ true) × (d .partitions ≤ namedPartition o (x .cmd)))
 
   -- "protection of the current partition for WRITE, WRITE FILEMARKS and ERASE at any count (7/27/00)"
   abbrev pub WriteProtected : Type 0

@@ -4,7 +4,7 @@ use mathlib.Core.Bool.{Bool, true, false, cond, not}
 use mathlib.Core.List.{List, [], _∷_}
 use lib.Dec.{eqb}
 use Rattle.codes.specs.declared.operation.Operation.{Operation}
-use Rattle.codes.specs.declared.operation.Operation.the-variants.{RequestSense, ReadBlockLimits, Write, WriteFilemarks, ModeSelect, Erase, ModeSense, Locate, NotServed}
+use Rattle.codes.specs.declared.operation.Operation.the-variants.{RequestSense, ReadBlockLimits, Write, WriteFilemarks, ModeSelect, Erase, ModeSense, Locate, Locate16, NotServed}
 use Rattle.codes.specs.Codes.{numberOf}
 
 -- o is one of these
@@ -24,12 +24,12 @@ isServed o = not (among (NotServed ∷ []) o)
 abbrev pub needsCartridge : Operation → Bool
 needsCartridge o = not (among (RequestSense ∷ ReadBlockLimits ∷ ModeSelect ∷ ModeSense ∷ []) o)
 
--- ERASE, and LOCATE, which looks at its target
+-- ERASE, and LOCATE of either length, which looks at its target
 abbrev pub erases : Operation → Bool
 erases o = among (Erase ∷ []) o
 
 abbrev pub locates : Operation → Bool
-locates o = among (Locate ∷ []) o
+locates o = among (Locate ∷ Locate16 ∷ []) o
 
 -- "protection of the current partition for WRITE, WRITE FILEMARKS and ERASE at any count"
 abbrev pub writes : Operation → Bool

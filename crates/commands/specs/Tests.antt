@@ -12,13 +12,13 @@ use Rattle.sense.specs.Sense.{notReady, illegalRequest, dataProtect, unqualifie
 use Rattle.record.specs.declared.drive.Drive.{Drive}
 use Rattle.record.specs.Record.{noAttention}
 use Rattle.codes.specs.declared.operation.Operation.{Operation}
-use Rattle.codes.specs.declared.operation.Operation.the-variants.{RequestSense, ReadBlockLimits, Read, Write, Space, ModeSelect, ModeSense, ReadPosition}
+use Rattle.codes.specs.declared.operation.Operation.the-variants.{RequestSense, ReadBlockLimits, Read, Write, Space, ModeSelect, ModeSense, ReadPosition, Space16, Locate16}
 use Rattle.codes.specs.Codes.{masksHold}
-use Rattle.codes.specs.Fields.{fixedOf, siliOf, transferOf, spaceCodeOf, changesPartition, partitionOf, formOf, dbdOf, pageOf, pfOf, allocationOf}
+use Rattle.codes.specs.Fields.{fixedOf, siliOf, transferOf, spaceCodeOf, changesPartition, destinationOf, formOf, dbdOf, pageOf, pfOf, allocationOf}
 use Rattle.commands.specs.Stop.{Stop, refuse, attend, fault}
 use Rattle.commands.specs.Kinds.{among, passesAttention, isServed, needsCartridge, locates, writes}
 use Rattle.commands.specs.Parameters.{noPage, allPages, limitsLength, headerLength, wholeLength, shortLength, longLength, listLengthKnown}
-use Rattle.commands.specs.Act.{Seen, overBlocks, overFilemarks, toEnd, shortForm, longForm, senseAsked}
+use Rattle.commands.specs.Act.{Seen, overBlocks, overFilemarks, toEnd, namedPartition, byObject, byFile, byEnd, shortForm, longForm, senseAsked}
 
 -- "length × block length (FIXED) or length bytes"
 unfoldable pub bytesAsked : Drive → List ℕ → ℕ
@@ -32,14 +32,16 @@ fieldError o d cmd =
     -- "FIXED .. as READ; variable length above 65,536"
     (cond (among (Write ∷ []) o) (cond (fixedOf cmd) (eqb (d .«block_length») 0) (ltb largestBlock (transferOf cmd)))
     -- "Other codes than 0, 1, 3"
-    (cond (among (Space ∷ []) o) (not (eqb (spaceCodeOf cmd) overBlocks || eqb (spaceCodeOf cmd) overFilemarks || eqb (spaceCodeOf cmd) toEnd))
+    (cond (among (Space ∷ Space16 ∷ []) o) (not (eqb (spaceCodeOf cmd) overBlocks || eqb (spaceCodeOf cmd) overFilemarks || eqb (spaceCodeOf cmd) toEnd))
     -- "PF must be 1"
     (cond (among (ModeSelect ∷ []) o) (not (pfOf cmd))
     -- "page 00h or 3Fh, else field error"
     (cond (among (ModeSense ∷ []) o) (not (eqb (pageOf cmd) noPage || eqb (pageOf cmd) allPages))
     -- "other forms field error"
     (cond (among (ReadPosition ∷ []) o) (not (eqb (formOf cmd) shortForm || eqb (formOf cmd) longForm))
-    false)))))
+    -- Q-1: "destinations 2 and 4 to 7 are field errors"
+    (cond (among (Locate16 ∷ []) o) (not (eqb (destinationOf cmd) byObject || eqb (destinationOf cmd) byFile || eqb (destinationOf cmd) byEnd))
+    false))))))
 
 -- how many bytes the command takes from the data sent
 unfoldable pub taken : Operation → Drive → List ℕ → ℕ
@@ -71,7 +73,7 @@ tests o d cmd v sent room =
     -- "else 5/1A/00, tested just after the fields"
     ∷ (among (ModeSelect ∷ []) o && not (listLengthKnown (allocationOf cmd)), fault illegalRequest listLengthError unqualified)
     ∷ (needsCartridge o && eqb (d .loaded) 0, fault notReady mediumNotPresent unqualified)
-    ∷ (locates o && changesPartition cmd && leb (d .partitions) (partitionOf cmd), fieldFault)
+    ∷ (locates o && changesPartition cmd && leb (d .partitions) (namedPartition o cmd), fieldFault)
     ∷ (writes o && v .guarded, fault dataProtect writeProtected unqualified)
     ∷ (ltb (length sent) (taken o d cmd), refuse sentShort)
     ∷ (ltb room (needed o d cmd), refuse receivedShort)

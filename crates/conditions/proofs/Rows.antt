@@ -11,11 +11,9 @@ use lib.ListN.{length}
 use Rattle.record.specs.declared.drive.Drive.{Drive}
 use Rattle.record.specs.Record.{noAttention}
 use Rattle.codes.specs.declared.operation.Operation.{Operation}
-use Rattle.codes.specs.declared.operation.Operation.the-variants.{Locate}
 use Rattle.codes.specs.Codes.{codeOf, tooShort, numberOf, operationOf}
-use Rattle.codes.proofs.Rules.{operation-number}
 use Rattle.commands.specs.Parameters.{headerLength, wholeLength, listLengthKnown}
-use Rattle.commands.specs.Kinds.{among, passesAttention}
+use Rattle.commands.specs.Kinds.{among, passesAttention, locates}
 use Rattle.commands.proofs.Among.{last}
 use Rattle.commands.proofs.Long.{locate-long}
 
@@ -23,13 +21,6 @@ use Rattle.commands.proofs.Long.{locate-long}
 
 pub same-numbers : (o x : Operation) (n m : ℕ) → n ≡ numberOf o → m ≡ numberOf x → eqb n m ≡ among (x ∷ []) o
 same-numbers o x n m en em = ap (eqb n) em ∙ last o x n en
-
-same-command : (o x : Operation) → among (x ∷ []) o ≡ true → o ≡ x
-same-command o x h = by (eqb (numberOf o) (numberOf x)) refl h
-  where
-    by : (t : Bool) → eqb (numberOf o) (numberOf x) ≡ t → cond t true false ≡ true → o ≡ x
-    by true q w = sym (operation-number o) ∙ ap operationOf (eqb-true (numberOf o) (numberOf x) q) ∙ operation-number x
-    by false q w = absurd (let z : _≡_ {A = ℕ} 0 1 = cc in omega arith)
 
 -- ---- a row of two parts, of which the code looks at the second only where the first does not decide
 
@@ -70,9 +61,9 @@ module _ (o : Operation) (d : Drive) where
 -- ---- what a LOCATE is known to be
 
 module _ (o : Operation) (cmd : List ℕ) (h : tooShort cmd ≡ false) (e : o ≡ operationOf (codeOf cmd)) (b : Bool) where
-  -- a LOCATE has its ten bytes
-  pub locate-known : b ≡ among (Locate ∷ []) o → not b ≡ false → 10 ≤ length cmd
-  locate-known q n = locate-long cmd h (sym e ∙ same-command o Locate (sym q ∙ not-false b n))
+  -- a LOCATE has ten bytes at least
+  pub locate-known : b ≡ locates o → not b ≡ false → 10 ≤ length cmd
+  locate-known q n = locate-long cmd h (ap locates (sym e) ∙ sym q ∙ not-false b n)
 
 -- ---- the lengths that a list may have
 

@@ -6,11 +6,12 @@ ghost use Prim.Native.Nat.{_≤_};
 ghost use lib.Dec.{eqb, leb};
 ghost use lib.ListN.{length};
 ghost use Rattle.record.specs.Record.{noAttention};
-ghost use Rattle.codes.specs.declared.operation.Operation.the-variants.{ModeSelect, Locate};
+ghost use Rattle.codes.specs.declared.operation.Operation.the-variants.{ModeSelect};
 ghost use Rattle.codes.specs.Codes.{codeOf, tooShort, operationOf, masksHold};
-ghost use Rattle.codes.specs.Fields.{allocationOf, changesPartition, partitionOf};
+ghost use Rattle.codes.specs.Fields.{allocationOf, changesPartition};
 ghost use Rattle.commands.specs.Parameters.{listLengthKnown};
-ghost use Rattle.commands.specs.Kinds.{among, passesAttention, needsCartridge, writes};
+ghost use Rattle.commands.specs.Kinds.{among, passesAttention, needsCartridge, locates, writes};
+ghost use Rattle.commands.specs.Act.{namedPartition};
 ghost use Rattle.commands.specs.Tests.{fieldError};
 use codes::Operation;
 use kinds::HEADER_LENGTH;
@@ -84,15 +85,15 @@ pub fn is_without_cartridge(o: Operation, d: Drive) -> bool
 // Whether it is LOCATE to a partition that the cartridge does not have.
 pub fn is_partition_wrong(o: Operation, d: Drive, cmd: &[u8]) -> bool
     requires { ⌜ (tooShort (now cmd) ≡ false) × (o ≡ operationOf (codeOf (now cmd))) ⌝ }
-    ensures { λ r. ⌜ r ≡ among (Locate ∷ []) o && changesPartition (now (cmd .entry)) && leb (d .partitions) (partitionOf (now (cmd .entry))) ⌝ }
+    ensures { λ r. ⌜ r ≡ locates o && changesPartition (now (cmd .entry)) && leb (d .partitions) (namedPartition o (now (cmd .entry))) ⌝ }
 {
-    if !is_same(o, Operation::Locate) {
+    if !kinds::locates(o) {
         return false;
     }
     if !codes::changes_partition(cmd) {
         return false;
     }
-    d.partitions <= codes::partition(cmd)
+    d.partitions <= kinds::named_partition(o, cmd)
 }
 
 // Whether write protection stops it.

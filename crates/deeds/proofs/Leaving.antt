@@ -10,9 +10,10 @@ use Rattle.sense.specs.declared.Sense.{Sense}
 use Rattle.sense.specs.Sense.{senseBytes, emptySense}
 use Rattle.record.specs.declared.drive.Drive.{Drive}
 use Rattle.record.specs.Record.{withSense}
-use Rattle.codes.specs.Fields.{changesPartition, partitionOf}
+use Rattle.codes.specs.declared.operation.Operation.{Operation}
+use Rattle.codes.specs.Fields.{changesPartition}
 use Rattle.deeds.specs.declared.deeds.Left.{Left}
-use Rattle.commands.specs.Act.{carrying, good, checked, targetOf}
+use Rattle.commands.specs.Act.{carrying, good, checked, namedPartition, targetOf}
 use Rattle.commands.specs.Step.{statusOf, keptOf}
 use Rattle.deeds.specs.Left.{leftBy}
 
@@ -25,11 +26,11 @@ module _ (d e : Drive) (b : List ℕ) (h : e ≡ withSense d b) (n : ℕ) where
   unfolding statusOf keptOf
   leaves-checked s k = rw (h, k) refl
 
-module _ (d : Drive) (cmd : List ℕ) (b : Bool) (e : b ≡ changesPartition cmd) where
-  pub target-named : b ≡ true → (k : ℕ) → k ≡ partitionOf cmd → k ≡ targetOf d cmd
+module _ (o : Operation) (d : Drive) (cmd : List ℕ) (b : Bool) (e : b ≡ changesPartition cmd) where
+  pub target-named : b ≡ true → (k : ℕ) → k ≡ namedPartition o cmd → k ≡ targetOf o d cmd
   unfolding targetOf
   target-named h k q = rw (← e, h) q
 
-  pub target-current : b ≡ false → d .current ≡ targetOf d cmd
+  pub target-current : b ≡ false → d .current ≡ targetOf o d cmd
   unfolding targetOf
   target-current h = rw (← e, h) refl

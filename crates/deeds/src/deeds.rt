@@ -5,6 +5,7 @@ ghost use lib.ListN.{length};
 ghost use Rattle.commands.specs.Act.{carrying, targetOf};
 ghost use Rattle.commands.specs.Act.{good as Act·good, checked as Act·checked, at as Act·at, unattended as Act·unattended};
 ghost use Rattle.deeds.specs.Left.{leftBy};
+use codes::Operation;
 use record::Drive;
 use sense::Sense;
 
@@ -50,13 +51,13 @@ pub fn at(d: Drive, n: u32) -> Drive
     e
 }
 
-// The partition that LOCATE goes to.
-pub fn target_of(d: Drive, cmd: &[u8]) -> u8
+// The partition that LOCATE, of either length, goes to.
+pub fn target_of(o: Operation, d: Drive, cmd: &[u8]) -> u8
     requires { ⌜ 9 ≤ length (now cmd) ⌝ }
-    ensures { λ r. ⌜ r ≡ targetOf d (now (cmd .entry)) ⌝ }
+    ensures { λ r. ⌜ r ≡ targetOf o d (now (cmd .entry)) ⌝ }
 {
     if codes::changes_partition(cmd) {
-        return codes::partition(cmd);
+        return kinds::named_partition(o, cmd);
     }
     d.current
 }

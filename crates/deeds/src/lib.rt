@@ -12,6 +12,7 @@ pub use senses::beginning_met;
 pub use senses::end_met;
 pub use senses::end_told;
 pub use senses::filemark_met;
+pub use senses::filemark_told;
 pub use senses::odd_met;
 pub use senses::overflowed;
 pub use senses::warned;

@@ -1,9 +1,9 @@
 // The senses of a command that reports its residue, each told once: what it met, or what it could not put.
 ghost use mathlib.Core.Path.{_≡_};
 ghost use mathlib.Core.Bool.{true};
-ghost use lib.IntN.{subℕ};
+ghost use lib.IntN.{ℤ, subℕ};
 ghost use Rattle.image.specs.Image.{sound};
-ghost use Rattle.sense.specs.Sense.{noSense, noAdditional, told};
+ghost use Rattle.sense.specs.Sense.{noSense, noAdditional, told, Shows};
 ghost use Rattle.commands.specs.Act.{eomAtEnd, endTold, endMet, filemarkMet, oddMet, beginningMet};
 ghost use Rattle.commands.specs.Act.{warned as Act·warned, overflowed as Act·overflowed};
 ghost use Rattle.commands.specs.Call.{seenOf};
@@ -12,12 +12,13 @@ use sense::END_OF_DATA_DETECTED;
 use sense::END_OF_PARTITION;
 use sense::FILEMARK_DETECTED;
 use sense::NO_ADDITIONAL;
+use sense::Residue;
 use sense::Sense;
 use sense::UNQUALIFIED;
 
 // What is no error, by a command that counts: key 0 and ASC 00h, with this qualifier.
-fn met(filemark: bool, eom: bool, ili: bool, qualifier: u8, request: u32, actual: u32) -> Sense
-    ensures { λ r. ⌜ r ≡ told true filemark eom ili noSense noAdditional qualifier (subℕ request actual) ⌝ }
+fn met(filemark: bool, eom: bool, ili: bool, qualifier: u8, rest: Residue) -> Sense
+    ensures { λ r. ⌜ ((z : ℤ) → Shows rest z → r ≡ told true filemark eom ili noSense noAdditional qualifier z) ⌝ }
 {
     sense::told(
         true,
@@ -27,30 +28,37 @@ fn met(filemark: bool, eom: bool, ili: bool, qualifier: u8, request: u32, actual
         sense::NO_SENSE,
         NO_ADDITIONAL,
         qualifier,
-        request,
-        actual,
+        rest,
     )
 }
 
-// A filemark met: 0/00/01, FILEMARK.
+// A filemark met: 0/00/01, FILEMARK; by its residue, and by a request and an actual that are not below zero.
+pub fn filemark_told(rest: Residue) -> Sense
+    ensures { λ r. ⌜ ((z : ℤ) → Shows rest z → r ≡ filemarkMet z) ⌝ }
+{
+    met(true, false, false, FILEMARK_DETECTED, rest)
+}
+
 pub fn filemark_met(request: u32, actual: u32) -> Sense
     ensures { λ r. ⌜ r ≡ filemarkMet (subℕ request actual) ⌝ }
 {
-    met(true, false, false, FILEMARK_DETECTED, request, actual)
+    let rest = sense::residue_of(request, actual);
+    filemark_told(rest)
 }
 
 // A block of another length: 0/00/00, ILI.
 pub fn odd_met(request: u32, actual: u32) -> Sense
     ensures { λ r. ⌜ r ≡ oddMet (subℕ request actual) ⌝ }
 {
-    met(false, false, true, UNQUALIFIED, request, actual)
+    let rest = sense::residue_of(request, actual);
+    met(false, false, true, UNQUALIFIED, rest)
 }
 
 // The beginning met: 0/00/04, EOM.
-pub fn beginning_met(request: u32, actual: u32) -> Sense
-    ensures { λ r. ⌜ r ≡ beginningMet (subℕ request actual) ⌝ }
+pub fn beginning_met(rest: Residue) -> Sense
+    ensures { λ r. ⌜ ((z : ℤ) → Shows rest z → r ≡ beginningMet z) ⌝ }
 {
-    met(false, true, false, BEGINNING_OF_PARTITION, request, actual)
+    met(false, true, false, BEGINNING_OF_PARTITION, rest)
 }
 
 // EOM at end of data: by a house rule always the same, whatever is seen of the partition.
@@ -70,6 +78,7 @@ pub fn end_told(s: &[u8], counts: bool, request: u32, actual: u32) -> Sense
 {
     let key = sense::BLANK_CHECK;
     let eom = eom_at_end(s);
+    let rest = sense::residue_of(request, actual);
     sense::told(
         counts,
         false,
@@ -78,8 +87,7 @@ pub fn end_told(s: &[u8], counts: bool, request: u32, actual: u32) -> Sense
         key,
         NO_ADDITIONAL,
         END_OF_DATA_DETECTED,
-        request,
-        actual,
+        rest,
     )
 }
 
@@ -95,7 +103,8 @@ pub fn end_met(s: &[u8], request: u32, actual: u32) -> Sense
 pub fn warned() -> Sense
     ensures { λ r. ⌜ r ≡ Act·warned ⌝ }
 {
-    met(false, true, false, END_OF_PARTITION, 0, 0)
+    let rest = sense::residue_of(0, 0);
+    met(false, true, false, END_OF_PARTITION, rest)
 }
 
 // Not all put: D/00/02, EOM.
@@ -103,6 +112,7 @@ pub fn overflowed(request: u32, actual: u32) -> Sense
     ensures { λ r. ⌜ r ≡ Act·overflowed (subℕ request actual) ⌝ }
 {
     let key = sense::VOLUME_OVERFLOW;
+    let rest = sense::residue_of(request, actual);
     sense::told(
         true,
         false,
@@ -111,7 +121,6 @@ pub fn overflowed(request: u32, actual: u32) -> Sense
         key,
         NO_ADDITIONAL,
         END_OF_PARTITION,
-        request,
-        actual,
+        rest,
     )
 }

@@ -25,7 +25,7 @@ use Rattle.sense.specs.Sense.{illegalRequest, invalidListField, unqualified, pl
 use Rattle.record.specs.declared.drive.Drive.{Drive}
 use Rattle.record.specs.Record.{decodeOf, encodeOf, withSense, loadedAnew, unloaded}
 use Rattle.codes.specs.declared.operation.Operation.{Operation}
-use Rattle.codes.specs.declared.operation.Operation.the-variants.{TestUnitReady, Rewind, RequestSense, ReadBlockLimits, Read, Write, WriteFilemarks, Space, ModeSelect, Erase, ModeSense, LoadUnload, Locate, ReadPosition, NotServed}
+use Rattle.codes.specs.declared.operation.Operation.the-variants.{TestUnitReady, Rewind, RequestSense, ReadBlockLimits, Read, Write, WriteFilemarks, Space, ModeSelect, Erase, ModeSense, LoadUnload, Locate, ReadPosition, Space16, Locate16, NotServed}
 use Rattle.codes.specs.Codes.{codeOf, operationOf}
 use Rattle.codes.specs.Fields.{fixedOf, transferOf, loadOf, allocationOf}
 use Rattle.commands.specs.Parameters.{wholeLength, listRight, newLength}
@@ -133,6 +133,8 @@ module _ (d : Drive) (cmd sent : List ℕ) (v : Seen) where
   act-lays Erase h = absurd (let z : _≡_ {A = ℕ} 0 1 = cc in omega arith)
   act-lays LoadUnload h = absurd (let z : _≡_ {A = ℕ} 0 1 = cc in omega arith)
   act-lays Locate h = absurd (let z : _≡_ {A = ℕ} 0 1 = cc in omega arith)
+  act-lays Space16 h = absurd (let z : _≡_ {A = ℕ} 0 1 = cc in omega arith)
+  act-lays Locate16 h = absurd (let z : _≡_ {A = ℕ} 0 1 = cc in omega arith)
   act-lays NotServed h = absurd (let z : _≡_ {A = ℕ} 0 1 = cc in omega arith)
 
   -- a command of another kind lays nothing
@@ -200,6 +202,8 @@ module _ (d : Drive) (cmd sent : List ℕ) (v : Seen) where
       go : (t : Bool) → (good (cond t (loadedAnew d) (unloaded d))) .received ≡ []
       go t = refl
   act-lays-none Locate h = refl
+  act-lays-none Space16 h = refl
+  act-lays-none Locate16 h = refl
   act-lays-none NotServed h = refl
   act-lays-none RequestSense h = absurd (let z : _≡_ {A = ℕ} 0 1 = cc in omega arith)
   act-lays-none ReadBlockLimits h = absurd (let z : _≡_ {A = ℕ} 0 1 = cc in omega arith)
@@ -218,6 +222,8 @@ module _ (d : Drive) (cmd sent : List ℕ) (v : Seen) where
   act-carries-none Erase h n m = refl
   act-carries-none LoadUnload h n m = refl
   act-carries-none Locate h n m = refl
+  act-carries-none Space16 h n m = refl
+  act-carries-none Locate16 h n m = refl
   act-carries-none NotServed h n m = refl
   act-carries-none RequestSense h n m = absurd (let z : _≡_ {A = ℕ} 0 1 = cc in omega arith)
   act-carries-none ReadBlockLimits h n m = absurd (let z : _≡_ {A = ℕ} 0 1 = cc in omega arith)

@@ -5,4 +5,5 @@ pub mod Senses
 pub mod Carried
 pub mod Small
 pub mod Numbers
+pub mod Ranges
 pub mod Residues

@@ -9,7 +9,7 @@ use mathlib.Core.Option.{Option, none, some}
 use mathlib.Core.List.{List}
 use native.Mathlib.Omega.{arith}
 use lib.Dec.{eqb}
-use lib.IntN.{pos}
+use lib.IntN.{ℤ, pos}
 use lib.ListN.{length}
 use lib.Seq.{take-all}
 use Rattle.answers.specs.Answers.{checkCondition, first}
@@ -128,22 +128,22 @@ module _ (rec : List ℕ) (x : Lent) where
     pub there : FirstAt T place
     pub known : Known place asc
     pub is : senseAfter R ≡ plainly key asc ascq
-    pub silent : reports true key ≡ false
+    pub silent : (z : ℤ) → reports true key z ≡ false
 
-  by-fault : (j k a q : ℕ) → FirstAt T j → Known j a → k < 16 → reports true k ≡ false → first T ≡ some (fault k a q) → ByTest
+  by-fault : (j k a q : ℕ) → FirstAt T j → Known j a → k < 16 → ((z : ℤ) → reports true k z ≡ false) → first T ≡ some (fault k a q) → ByTest
   by-fault j k a q f n h s e = record { place = j; key = k; asc = a; ascq = q; there = f; known = n; is = after-fault k a q h e .1; silent = s }
 
   by-place : (j : ℕ) → FirstAt T j → first T ≡ givenAt T j → R .answer .status ≡ checkCondition → ByTest
   unfolding commandTests tests reports
   by-place zero f g s = absurd (never 1 (omega arith) g s)
   by-place (suc zero) f g s = absurd (never 4 (omega arith) g s)
-  by-place (suc (suc zero)) f g s = record { place = 2; key = unitAttention; asc = d .attention; ascq = unqualified; there = f; known = attention-waits refl refl; is = after-attention g .1; silent = refl }
-  by-place (suc (suc (suc zero))) f g s = by-fault 3 _ _ _ f (code-not-served refl refl) (omega arith) refl g
-  by-place (suc (suc (suc (suc zero)))) f g s = by-fault 4 _ _ _ f (field-wrong refl refl) (omega arith) refl g
-  by-place (suc (suc (suc (suc (suc zero))))) f g s = by-fault 5 _ _ _ f (list-length-wrong refl refl) (omega arith) refl g
-  by-place (suc (suc (suc (suc (suc (suc zero)))))) f g s = by-fault 6 _ _ _ f (nothing-loaded refl refl) (omega arith) refl g
-  by-place (suc (suc (suc (suc (suc (suc (suc zero))))))) f g s = by-fault 7 _ _ _ f (no-such-partition refl refl) (omega arith) refl g
-  by-place (suc (suc (suc (suc (suc (suc (suc (suc zero)))))))) f g s = by-fault 8 _ _ _ f (write-protected refl refl) (omega arith) refl g
+  by-place (suc (suc zero)) f g s = record { place = 2; key = unitAttention; asc = d .attention; ascq = unqualified; there = f; known = attention-waits refl refl; is = after-attention g .1; silent = λ z. refl }
+  by-place (suc (suc (suc zero))) f g s = by-fault 3 _ _ _ f (code-not-served refl refl) (omega arith) (λ z. refl) g
+  by-place (suc (suc (suc (suc zero)))) f g s = by-fault 4 _ _ _ f (field-wrong refl refl) (omega arith) (λ z. refl) g
+  by-place (suc (suc (suc (suc (suc zero))))) f g s = by-fault 5 _ _ _ f (list-length-wrong refl refl) (omega arith) (λ z. refl) g
+  by-place (suc (suc (suc (suc (suc (suc zero)))))) f g s = by-fault 6 _ _ _ f (nothing-loaded refl refl) (omega arith) (λ z. refl) g
+  by-place (suc (suc (suc (suc (suc (suc (suc zero))))))) f g s = by-fault 7 _ _ _ f (no-such-partition refl refl) (omega arith) (λ z. refl) g
+  by-place (suc (suc (suc (suc (suc (suc (suc (suc zero)))))))) f g s = by-fault 8 _ _ _ f (write-protected refl refl) (omega arith) (λ z. refl) g
   by-place (suc (suc (suc (suc (suc (suc (suc (suc (suc zero))))))))) f g s = absurd (never 2 (omega arith) g s)
   by-place (suc (suc (suc (suc (suc (suc (suc (suc (suc (suc zero)))))))))) f g s = absurd (never 3 (omega arith) g s)
   by-place (suc (suc (suc (suc (suc (suc (suc (suc (suc (suc (suc j))))))))))) f g s = absurd (not-both (sym (f .1)))

@@ -25,7 +25,7 @@ use Rattle.record.specs.declared.drive.Drive.{Drive}
 use Rattle.record.specs.Record.{attentionAt, senseAt, noAttention, decodeOf}
 use Rattle.sense.specs.Sense.{senseLength, illegalRequest, invalidListField, unqualified, plainly, attentionSense}
 use Rattle.codes.specs.declared.operation.Operation.{Operation}
-use Rattle.codes.specs.declared.operation.Operation.the-variants.{TestUnitReady, Rewind, RequestSense, ReadBlockLimits, Read, Write, WriteFilemarks, Space, ModeSelect, Erase, ModeSense, LoadUnload, Locate, ReadPosition, NotServed}
+use Rattle.codes.specs.declared.operation.Operation.the-variants.{TestUnitReady, Rewind, RequestSense, ReadBlockLimits, Read, Write, WriteFilemarks, Space, ModeSelect, Erase, ModeSense, LoadUnload, Locate, ReadPosition, Space16, Locate16, NotServed}
 use Rattle.codes.specs.Fields.{fixedOf, transferOf, formOf, dbdOf, allocationOf}
 use Rattle.commands.specs.Act.{Seen, good, checked, carrying, withLength, readVariable, readRun, reading, goesDown, offered, spacing, locating, selecting, shortForm, senseAsked, replyOf, act}
 use Rattle.commands.specs.Call.{Lent, partition, looksAt, seen, seenOf}
@@ -194,4 +194,6 @@ module _ (rec : List ℕ) (x : Lent) (w : Well (decodeOf rec) (x .part0) (x .par
   carries Erase q = omega arith
   carries LoadUnload q = omega arith
   carries Locate q = omega arith
+  carries Space16 q = omega arith
+  carries Locate16 q = omega arith
   carries NotServed q = omega arith

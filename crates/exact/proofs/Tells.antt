@@ -1,7 +1,7 @@
--- What an act may tell: always by `told`, counting for READ, WRITE, WRITE FILEMARKS and SPACE alone, and never what only a test tells.
+-- What an act may tell: always by `told`, counting for READ, WRITE, WRITE FILEMARKS and SPACE of either length alone, and never what only a test tells.
 -- Assumes nothing.
 use Prim.Native.Nat.{ℕ, suc, _+_, _<_}
-use mathlib.Core.Path.{_≡_, refl, subst}
+use mathlib.Core.Path.{_≡_, refl, sym, ap}
 use mathlib.Core.Logic.{_⊎_, inl, inr}
 use mathlib.Core.Bool.{Bool, true, false, cond, _||_}
 use mathlib.Core.Option.{Option, none, some}
@@ -18,10 +18,10 @@ use Rattle.sense.specs.declared.Sense.{Sense}
 use Rattle.sense.specs.Sense.{noSense, illegalRequest, blankCheck, volumeOverflow, noAdditional, unqualified, invalidListField, filemarkDetected, endOfPartition, beginningOfPartition, endOfDataDetected, told, plainly}
 use Rattle.record.specs.declared.drive.Drive.{Drive}
 use Rattle.codes.specs.declared.operation.Operation.{Operation}
-use Rattle.codes.specs.declared.operation.Operation.the-variants.{TestUnitReady, Rewind, RequestSense, ReadBlockLimits, Read, Write, WriteFilemarks, Space, ModeSelect, Erase, ModeSense, LoadUnload, Locate, ReadPosition, NotServed}
-use Rattle.codes.specs.Fields.{fixedOf, transferOf, spaceCountOf, objectOf, allocationOf}
+use Rattle.codes.specs.declared.operation.Operation.the-variants.{TestUnitReady, Rewind, RequestSense, ReadBlockLimits, Read, Write, WriteFilemarks, Space, ModeSelect, Erase, ModeSense, LoadUnload, Locate, ReadPosition, Space16, Locate16, NotServed}
+use Rattle.codes.specs.Fields.{fixedOf, transferOf, spaceCodeOf, spaceCountOf, spaceCount16Of, objectOf, allocationOf}
 use Rattle.commands.specs.Parameters.{wholeLength, listRight, newLength}
-use Rattle.commands.specs.Act.{Seen, good, checked, carrying, readRun, at, eomAtEnd, oddMet, warned, overflowed, hidden, readVariable, runTells, reading, goesDown, wrote, writing, marking, spaceTells, movement, spacing, targetOf, locateTells, locating, selecting, withLength, act}
+use Rattle.commands.specs.Act.{Seen, good, checked, carrying, readRun, at, eomAtEnd, oddMet, warned, overflowed, hidden, readVariable, runTells, reading, goesDown, wrote, writing, marking, spaceTells, movement, spacing, targetOf, destination16, locateTells, locating, selecting, withLength, act}
 use Rattle.exact.specs.Residues.{counts}
 
 -- a sense that the command o may tell
@@ -41,9 +41,9 @@ abbrev pub ToldBy : Operation → Option Sense → Type 0
 ToldBy o none = Unit {0}
 ToldBy o (some s) = Told o s
 
--- one that 01 gives ASC 00h
-plain : (o : Operation) (f e i : Bool) (key ascq : ℕ) (z : ℤ) → key < 16 → Told o (told (counts o) f e i key noAdditional ascq z)
-plain o f e i key ascq z h = record { filemark = f; eom = e; ili = i; key = key; asc = noAdditional; ascq = ascq; residue = z; key-small = h; asc-known = inl refl; is = refl }
+-- one that 01 gives ASC 00h, told by a command of which c says whether it counts
+plain : (o : Operation) (c f e i : Bool) (key ascq : ℕ) (z : ℤ) → counts o ≡ c → key < 16 → Told o (told c f e i key noAdditional ascq z)
+plain o c f e i key ascq z q h = record { filemark = f; eom = e; ili = i; key = key; asc = noAdditional; ascq = ascq; residue = z; key-small = h; asc-known = inl refl; is = ap (λ (b : Bool). told b f e i key noAdditional ascq z) (sym q) }
 
 module _ (d : Drive) (cmd sent : List ℕ) (v : Seen) where
   wrote-tells : (o : Operation) → counts o ≡ true → (n : ℕ) (os : List Object) (z : ℤ) → ToldBy o ((wrote d v n os z) .tells)
@@ -54,21 +54,21 @@ module _ (d : Drive) (cmd sent : List ℕ) (v : Seen) where
       there = at d (d .position + length os)
 
       go : (t w : Bool) → ToldBy o ((cond t (cond w (checked there warned) (good there)) (checked there (overflowed z))) .tells)
-      go true true = subst (λ (b : Bool). Told o (told b false true false noSense noAdditional endOfPartition (pos 0))) c (plain o false true false noSense endOfPartition (pos 0) (omega arith))
+      go true true = plain o true false true false noSense endOfPartition (pos 0) c (omega arith)
       go true false = tt
-      go false w = subst (λ (b : Bool). Told o (told b false true false volumeOverflow noAdditional endOfPartition z)) c (plain o false true false volumeOverflow endOfPartition z (omega arith))
+      go false w = plain o true false true false volumeOverflow endOfPartition z c (omega arith)
 
   run-tells : (w : Ended) (z : ℤ) → ToldBy Read (runTells v w z)
   unfolding runTells
   run-tells whole z = tt
-  run-tells oddLength z = plain Read false false true noSense unqualified z (omega arith)
-  run-tells atFilemark z = plain Read true false false noSense filemarkDetected z (omega arith)
-  run-tells atEnd z = plain Read false (eomAtEnd v) false blankCheck endOfDataDetected z (omega arith)
+  run-tells oddLength z = plain Read true false false true noSense unqualified z refl (omega arith)
+  run-tells atFilemark z = plain Read true true false false noSense filemarkDetected z refl (omega arith)
+  run-tells atEnd z = plain Read true false (eomAtEnd v) false blankCheck endOfDataDetected z refl (omega arith)
 
   variable-tells : (x : Option Object) → ToldBy Read ((readVariable d cmd v x) .tells)
   unfolding readVariable
-  variable-tells none = plain Read false (eomAtEnd v) false blankCheck endOfDataDetected (pos (transferOf cmd)) (omega arith)
-  variable-tells (some filemark) = plain Read true false false noSense filemarkDetected (pos (transferOf cmd)) (omega arith)
+  variable-tells none = plain Read true false (eomAtEnd v) false blankCheck endOfDataDetected (pos (transferOf cmd)) refl (omega arith)
+  variable-tells (some filemark) = plain Read true true false false noSense filemarkDetected (pos (transferOf cmd)) refl (omega arith)
   variable-tells (some (block bs)) = go (eqb (length bs) (transferOf cmd) || hidden d cmd (length bs))
     where
       there : Drive
@@ -76,7 +76,7 @@ module _ (d : Drive) (cmd sent : List ℕ) (v : Seen) where
 
       go : (t : Bool) → ToldBy Read ((cond t (good there) (checked there (oddMet (subℕ (transferOf cmd) (length bs))))) .tells)
       go true = tt
-      go false = plain Read false false true noSense unqualified (subℕ (transferOf cmd) (length bs)) (omega arith)
+      go false = plain Read true false false true noSense unqualified (subℕ (transferOf cmd) (length bs)) refl (omega arith)
 
   read-tells : ToldBy Read ((reading d cmd v) .tells)
   unfolding reading
@@ -90,15 +90,16 @@ module _ (d : Drive) (cmd sent : List ℕ) (v : Seen) where
       go false true = run-tells _ _
       go false false = variable-tells (getElem? (v .objects) (d .position))
 
-  space-tells : ToldBy Space ((spacing d cmd v) .tells)
+  -- SPACE of either length, by its code and its count
+  space-tells : (o : Operation) → counts o ≡ true → (code : ℕ) (k : ℤ) → ToldBy o ((spacing d code k v) .tells)
   unfolding spacing spaceTells
-  space-tells = go (movement cmd (d .position) (v .objects)) ((movement cmd (d .position) (v .objects)) .why) (spaceCountOf cmd)
+  space-tells o c code k = go (movement code k (d .position) (v .objects)) ((movement code k (d .position) (v .objects)) .why) k
     where
-      go : (m : M.Move) (w : M.Why) (k : ℤ) → ToldBy Space (spaceTells v k (record { to = m .to; moved = m .moved; why = w; distance = m .distance }))
+      go : (m : M.Move) (w : M.Why) (k : ℤ) → ToldBy o (spaceTells v k (record { to = m .to; moved = m .moved; why = w; distance = m .distance }))
       go m M.done k = tt
-      go m M.marked k = plain Space true false false noSense filemarkDetected _ (omega arith)
-      go m M.edge (pos n) = plain Space false (eomAtEnd v) false blankCheck endOfDataDetected _ (omega arith)
-      go m M.edge (negsuc n) = plain Space false true false noSense beginningOfPartition _ (omega arith)
+      go m M.marked k = plain o true true false false noSense filemarkDetected _ c (omega arith)
+      go m M.edge (pos n) = plain o true false (eomAtEnd v) false blankCheck endOfDataDetected _ c (omega arith)
+      go m M.edge (negsuc n) = plain o true false true false noSense beginningOfPartition _ c (omega arith)
 
   select-tells : ToldBy ModeSelect ((selecting d cmd sent) .tells)
   unfolding selecting
@@ -109,14 +110,15 @@ module _ (d : Drive) (cmd sent : List ℕ) (v : Seen) where
       go false true n e = tt
       go false false n e = record { filemark = false; eom = false; ili = false; key = illegalRequest; asc = invalidListField; ascq = unqualified; residue = pos 0; key-small = omega arith; asc-known = inr refl; is = refl }
 
-  locate-tells : ToldBy Locate ((locating d cmd v) .tells)
+  -- LOCATE of either length, by its partition and its destination
+  locate-tells : (o : Operation) → counts o ≡ false → (k : ℕ) (t : M.Destination) → ToldBy o ((locating d k t v) .tells)
   unfolding locating locateTells
-  locate-tells = go ((M.toObject (cond (eqb (targetOf d cmd) (d .current)) (d .position) 0) (objectOf cmd) (v .objects)) .why)
+  locate-tells o c k t = go ((M.locate t (cond (eqb k (d .current)) (d .position) 0) (v .objects)) .why)
     where
-      go : (w : M.Why) → ToldBy Locate (locateTells v w)
+      go : (w : M.Why) → ToldBy o (locateTells v w)
       go M.done = tt
       go M.marked = tt
-      go M.edge = plain Locate false (eomAtEnd v) false blankCheck endOfDataDetected (pos 0) (omega arith)
+      go M.edge = plain o false false (eomAtEnd v) false blankCheck endOfDataDetected (pos 0) c (omega arith)
 
   write-tells : ToldBy Write ((writing d cmd sent v) .tells)
   unfolding writing
@@ -150,11 +152,13 @@ module _ (d : Drive) (cmd sent : List ℕ) (v : Seen) where
   act-tells Read = read-tells
   act-tells Write = write-tells
   act-tells WriteFilemarks = marks-tell
-  act-tells Space = space-tells
+  act-tells Space = space-tells Space refl (spaceCodeOf cmd) (spaceCountOf cmd)
   act-tells ModeSelect = select-tells
   act-tells Erase = tt
   act-tells ModeSense = tt
   act-tells LoadUnload = tt
-  act-tells Locate = locate-tells
+  act-tells Locate = locate-tells Locate refl (targetOf Locate d cmd) (M.object (objectOf cmd))
   act-tells ReadPosition = tt
+  act-tells Space16 = space-tells Space16 refl (spaceCodeOf cmd) (spaceCount16Of cmd)
+  act-tells Locate16 = locate-tells Locate16 refl (targetOf Locate16 d cmd) (destination16 cmd)
   act-tells NotServed = tt

@@ -1,4 +1,4 @@
--- What READ, WRITE, WRITE FILEMARKS and SPACE report, by 01's bullets: the residue, and where they leave the position, in terms of the objects crossed
+-- What READ, WRITE, WRITE FILEMARKS and SPACE (of either length) report, by 01's bullets: the residue, and where they leave the position, in terms of the objects crossed
 -- or put. That the kept sense and the record after a call say these: proofs/Residues.antt.
 -- Assumes nothing: these are definitions.
 use Prim.Native.Nat.{ℕ, _+_}
@@ -13,14 +13,14 @@ use Rattle.objects.specs.Movement as M
 use Rattle.objects.specs.Transfer.{Run, runOf}
 use Rattle.record.specs.declared.drive.Drive.{Drive}
 use Rattle.codes.specs.declared.operation.Operation.{Operation}
-use Rattle.codes.specs.declared.operation.Operation.the-variants.{Read, Write, WriteFilemarks, Space}
-use Rattle.codes.specs.Fields.{fixedOf, transferOf, spaceCountOf}
+use Rattle.codes.specs.declared.operation.Operation.the-variants.{Read, Write, WriteFilemarks, Space, Space16}
+use Rattle.codes.specs.Fields.{fixedOf, transferOf, spaceCodeOf, spaceCountOf, spaceCount16Of}
 use Rattle.commands.specs.Kinds.{among}
 use Rattle.commands.specs.Act.{Seen, goesDown, movement}
 
--- "VALID is set for READ, WRITE, WRITE FILEMARKS and SPACE"
+-- "VALID is set for READ, WRITE, WRITE FILEMARKS and SPACE", by SPACE (16) too
 abbrev pub counts : Operation → Bool
-counts o = among (Read ∷ Write ∷ WriteFilemarks ∷ Space ∷ []) o
+counts o = among (Read ∷ Write ∷ WriteFilemarks ∷ Space ∷ Space16 ∷ []) o
 
 -- ---- READ
 
@@ -58,8 +58,13 @@ marksResidue d cmd sent v = subℕ (transferOf cmd) (length (goesDown WriteFilem
 
 -- ---- SPACE: "Residue = count − signed movement of what is counted"
 
-abbrev pub spaceResidue : Drive → List ℕ → Seen → ℤ
-spaceResidue d cmd v = M.residue (spaceCountOf cmd) (movement cmd (d .position) (v .objects))
+-- its count: of 24 bits, by SPACE (16) of 64
+abbrev pub countOf : Operation → List ℕ → ℤ
+countOf o cmd = cond (among (Space16 ∷ []) o) (spaceCount16Of cmd) (spaceCountOf cmd)
+
+-- by the code and the count k
+abbrev pub spaceResidue : Drive → ℕ → ℤ → Seen → ℤ
+spaceResidue d code k v = M.residue k (movement code k (d .position) (v .objects))
 
 -- ---- each
 
@@ -67,10 +72,10 @@ unfoldable pub residueOf : Operation → Drive → List ℕ → List ℕ → See
 residueOf o d cmd sent v =
     cond (among (Read ∷ []) o) (readResidue d cmd v)
     (cond (among (Write ∷ []) o) (writeResidue d cmd sent v)
-    (cond (among (WriteFilemarks ∷ []) o) (marksResidue d cmd sent v) (spaceResidue d cmd v)))
+    (cond (among (WriteFilemarks ∷ []) o) (marksResidue d cmd sent v) (spaceResidue d (spaceCodeOf cmd) (countOf o cmd) v)))
 
 -- where it leaves the position: behind the objects crossed, or put; where the movement ends
 unfoldable pub placeAfter : Operation → Drive → List ℕ → List ℕ → Seen → ℕ
 placeAfter o d cmd sent v =
     cond (among (Read ∷ []) o) (d .position + readCrosses d cmd v)
-    (cond (among (Space ∷ []) o) (movement cmd (d .position) (v .objects) .to) (d .position + length (goesDown o d cmd sent v)))
+    (cond (among (Space ∷ Space16 ∷ []) o) (movement (spaceCodeOf cmd) (countOf o cmd) (d .position) (v .objects) .to) (d .position + length (goesDown o d cmd sent v)))

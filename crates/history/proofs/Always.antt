@@ -12,6 +12,7 @@ use lib.ListN.{length, take, length-take}
 use Rattle.answers.specs.declared.Answer.{Answer}
 use Rattle.answers.specs.Answers.{recordFault, alreadyLoaded, unsoundImage, wrongLength, refused, done, settled, first, refusalOf}
 use Rattle.objects.specs.Events.{happen, happens}
+use Rattle.objects.specs.Movement as M
 use Rattle.image.specs.Image.{rightLength, sound, count, objects}
 use Rattle.image.specs.Image.{faultOf}
 use Rattle.house.specs.Images.{protectCall}
@@ -21,12 +22,13 @@ use Rattle.image.proofs.Objects.{length-objects}
 use Rattle.record.specs.declared.drive.Drive.{Drive}
 use Rattle.record.specs.Record.{attentionKnown, decodeOf, encodeOf, wellRecord, mountedDrive, withSense}
 use Rattle.codes.specs.declared.operation.Operation.{Operation}
-use Rattle.codes.specs.declared.operation.Operation.the-variants.{TestUnitReady, Rewind, RequestSense, ReadBlockLimits, Read, Write, WriteFilemarks, Space, ModeSelect, Erase, ModeSense, LoadUnload, Locate, ReadPosition, NotServed}
+use Rattle.codes.specs.declared.operation.Operation.the-variants.{TestUnitReady, Rewind, RequestSense, ReadBlockLimits, Read, Write, WriteFilemarks, Space, ModeSelect, Erase, ModeSense, LoadUnload, Locate, ReadPosition, Space16, Locate16, NotServed}
 use Rattle.codes.specs.Codes.{codeOf, operationOf}
+use Rattle.codes.specs.Fields.{spaceCodeOf, spaceCountOf, spaceCount16Of, objectOf}
 use Rattle.image.specs.Image.{absent}
 use Rattle.house.specs.Mount.{partitionsOf, rightLengths, bothSound, mountFault, mountCall}
 use Rattle.commands.specs.Kinds.{erases, needsCartridge, writes}
-use Rattle.commands.specs.Act.{Seen, at, targetOf, locating, goesDown, act, eventsOf}
+use Rattle.commands.specs.Act.{Seen, Deed, at, locating, destination16, goesDown, act, eventsOf}
 use Rattle.commands.specs.Tests.{tests}
 use Rattle.commands.specs.Step.{acted, keptOf}
 use Rattle.commands.specs.Call.{Lent, lent, Result, partition, looksAt, seen, seenOf, inserted, written, commandCall, laidOut, applied}
@@ -101,14 +103,17 @@ module _ (rec : List ℕ) (x : Lent) (w : Well (decodeOf rec) (x .part0) (x .par
         let e : length ((seen o (decodeOf rec) x) .objects) ≡ count (partition (decodeOf rec .current) (x .part0) (x .part1)) = rw (sees rec x w o q l z) (unfold seenOf in length-objects (partition (decodeOf rec .current) (x .part0) (x .part1))) in
         from-moves (decodeOf rec) (x .part0) (x .part1) (length ((seen o (decodeOf rec) x) .objects)) _ w z (m (seen o (decodeOf rec) x) (place rec x w o q l z)) e
 
-  locate-after : Passes Locate → Well (Drives Locate) (x .part0) (x .part1)
-  unfolding act locating seenOf looksAt
-  locate-after q =
-      let k = passed Locate (decodeOf rec) (x .cmd) (seen Locate (decodeOf rec) x) (x .sent) (length (x .received)) q in
-      let z = is-loaded Locate refl q in
-      let t = looks-in Locate (decodeOf rec) (x .cmd) (current-in (decodeOf rec) (x .part0) (x .part1) (w .cart) z) (k .there) in
-      let p : List ℕ = partition (targetOf (decodeOf rec) (x .cmd)) (x .part0) (x .part1) in
-      rw (seen-there Locate (decodeOf rec) x t) (located-well (decodeOf rec) (x .part0) (x .part1) (x .cmd) (seenOf p) w z t (length-objects p))
+  -- one that locates t on the partition that it looks at
+  locate-after : (o : Operation) (t : M.Destination) → needsCartridge o ≡ true → ((v : Seen) → act o (decodeOf rec) (x .cmd) (x .sent) v ≡ locating (decodeOf rec) (looksAt o (decodeOf rec) (x .cmd)) t v)
+      → Passes o → Well (Drives o) (x .part0) (x .part1)
+  unfolding seenOf
+  locate-after o t n a q =
+      let k = passed o (decodeOf rec) (x .cmd) (seen o (decodeOf rec) x) (x .sent) (length (x .received)) q in
+      let z = is-loaded o n q in
+      let h = looks-in o (decodeOf rec) (x .cmd) (current-in (decodeOf rec) (x .part0) (x .part1) (w .cart) z) (k .there) in
+      let p : List ℕ = partition (looksAt o (decodeOf rec) (x .cmd)) (x .part0) (x .part1) in
+      subst (λ (e : Deed). Well (e .drive) (x .part0) (x .part1)) (sym (ap (act o (decodeOf rec) (x .cmd) (x .sent)) (seen-there o (decodeOf rec) x h) ∙ a (seenOf p)))
+      (located-well (decodeOf rec) (x .part0) (x .part1) (looksAt o (decodeOf rec) (x .cmd)) t (seenOf p) w z h (length-objects p))
 
   pub acts-after : (o : Operation) → Passes o → After o
   unfolding act looksAt
@@ -120,12 +125,14 @@ module _ (rec : List ℕ) (x : Lent) (w : Well (decodeOf rec) (x .part0) (x .par
   acts-after RequestSense q = idle-after RequestSense q refl (calm-well (decodeOf rec) (x .part0) (x .part1) w)
   acts-after ReadBlockLimits q = idle-after ReadBlockLimits q refl w
   acts-after Read q = idle-after Read q refl (moves-after Read q refl (is-loaded Read refl q) (λ v h. reading-moves (decodeOf rec) (x .cmd) v h))
-  acts-after Space q = idle-after Space q refl (moves-after Space q refl (is-loaded Space refl q) (λ v h. spacing-moves (decodeOf rec) (x .cmd) v h))
+  acts-after Space q = idle-after Space q refl (moves-after Space q refl (is-loaded Space refl q) (λ v h. spacing-moves (decodeOf rec) (spaceCodeOf (x .cmd)) (spaceCountOf (x .cmd)) v h))
   acts-after ModeSelect q = idle-after ModeSelect q refl (selected-well (decodeOf rec) (x .part0) (x .part1) (x .cmd) (x .sent) w)
   acts-after ModeSense q = idle-after ModeSense q refl w
   acts-after LoadUnload q = idle-after LoadUnload q refl (loaded-well (decodeOf rec) (x .part0) (x .part1) (x .cmd) w (is-loaded LoadUnload refl q))
-  acts-after Locate q = idle-after Locate q refl (locate-after q)
+  acts-after Locate q = idle-after Locate q refl (locate-after Locate (M.object (objectOf (x .cmd))) refl (λ v. refl) q)
   acts-after ReadPosition q = idle-after ReadPosition q refl w
+  acts-after Space16 q = idle-after Space16 q refl (moves-after Space16 q refl (is-loaded Space16 refl q) (λ v h. spacing-moves (decodeOf rec) (spaceCodeOf (x .cmd)) (spaceCount16Of (x .cmd)) v h))
+  acts-after Locate16 q = idle-after Locate16 q refl (locate-after Locate16 (destination16 (x .cmd)) refl (λ v. refl) q)
   acts-after NotServed q = idle-after NotServed q refl w
 
 -- ---- every call of a command

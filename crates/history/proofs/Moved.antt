@@ -6,25 +6,26 @@ use mathlib.Core.Path.{_≡_, refl}
 use mathlib.Core.Bool.{Bool, true, false, cond, _&&_, _||_}
 use mathlib.Core.Option.{Option, none, some}
 use mathlib.Core.List.{List, [], _∷_}
-use borrow.Author.Tests.{leb-true}
+use borrow.Author.Tests.{leb-true, eqb-true}
 use lib.Dec.{eqb, leb}
+use lib.IntN.{ℤ}
 use lib.ListN.{length, drop, getElem?, length-drop}
 use Rattle.words.specs.Words.{be}
 use Rattle.sense.specs.Sense.{illegalRequest, plainly}
 use Rattle.objects.specs.Object.{Object, filemark, block, largestBlock}
 use Rattle.objects.specs.Movement as M
-use Rattle.objects.proofs.Walk.{went, went-end}
+use Rattle.objects.proofs.Walk.{went, went-end, went-there}
 use Rattle.image.specs.Image.{count}
 use Rattle.image.proofs.Facts.{Sound}
 use Rattle.record.specs.declared.drive.Drive.{Drive}
 use Rattle.record.specs.Record.{loadedAnew, unloaded}
-use Rattle.codes.specs.Fields.{fixedOf, transferOf, spaceCodeOf, spaceCountOf, objectOf, allocationOf, loadOf}
+use Rattle.codes.specs.Fields.{fixedOf, transferOf, allocationOf, loadOf}
 use Rattle.objects.specs.Transfer.{Run, runOf, wholeBefore, halted, oddLength}
 use Rattle.commands.specs.Parameters.{wholeLength, headerLength, headerRight, descriptorRight, listRight, newLength}
-use Rattle.commands.specs.Act.{Seen, Deed, good, checked, carrying, at, atPartition, withLength, hidden, reading, readVariable, movement, spacing, overBlocks, toEnd, targetOf, locating, selecting}
+use Rattle.commands.specs.Act.{Seen, Deed, good, checked, carrying, at, atPartition, withLength, hidden, reading, readVariable, movement, spacing, overBlocks, toEnd, locating, selecting}
 use Rattle.commands.specs.Call.{partition}
 use Rattle.history.proofs.Lists.{get-lt}
-use Rattle.commands.proofs.Faultless.{Cart, no-cart, one-part, two-parts, Well}
+use Rattle.commands.proofs.Faultless.{Cart, no-cart, one-part, two-parts, Well, inside}
 
 -- ---- the cartridge of a drive that moved
 
@@ -140,23 +141,20 @@ reading-moves d cmd v h =
         let m : Moves d (length (v .objects)) (at d (suc (d .position))) = record { to = suc (d .position); is = refl; within = get-lt (v .objects) (d .position) (block bs) e } in
         either-moves d _ (eqb (length bs) (transferOf cmd) || hidden d cmd (length bs)) _ _ m m
 
-pub spacing-moves : (d : Drive) (cmd : List ℕ) (v : Seen) → d .position ≤ length (v .objects) → Moves d (length (v .objects)) ((spacing d cmd v) .drive)
+pub spacing-moves : (d : Drive) (code : ℕ) (k : ℤ) (v : Seen) → d .position ≤ length (v .objects) → Moves d (length (v .objects)) ((spacing d code k v) .drive)
 unfolding spacing movement
-spacing-moves d cmd v h = record { to = (movement cmd (d .position) (v .objects)) .to; is = refl; within = go (eqb (spaceCodeOf cmd) toEnd) }
+spacing-moves d code k v h = record { to = (movement code k (d .position) (v .objects)) .to; is = refl; within = go (eqb code toEnd) }
   where
-    go : (t : Bool) → (cond t (M.toEndOfData (d .position) (v .objects)) (M.space (cond (eqb (spaceCodeOf cmd) overBlocks) M.blocks M.filemarks) (spaceCountOf cmd) (d .position) (v .objects))) .to ≤ length (v .objects)
+    go : (t : Bool) → (cond t (M.toEndOfData (d .position) (v .objects)) (M.space (cond (eqb code overBlocks) M.blocks M.filemarks) k (d .position) (v .objects))) .to ≤ length (v .objects)
     go true = went-end (d .position) (v .objects) h .stays
-    go false = went (cond (eqb (spaceCodeOf cmd) overBlocks) M.blocks M.filemarks) (spaceCountOf cmd) (d .position) (v .objects) h .stays
+    go false = went (cond (eqb code overBlocks) M.blocks M.filemarks) k (d .position) (v .objects) h .stays
 
 -- ---- LOCATE
 
-pub located-well : (d : Drive) (p0 p1 cmd : List ℕ) (v : Seen) → Well d p0 p1 → (d .loaded ≡ 0 → ⊥) → targetOf d cmd < d .partitions → length (v .objects) ≡ count (partition (targetOf d cmd) p0 p1) → Well ((locating d cmd v) .drive) p0 p1
-unfolding locating M.toObject
-located-well d p0 p1 cmd v w l h e = placed-well d p0 p1 (targetOf d cmd) _ w l h (omega (arith, go (leb (objectOf cmd) (length (v .objects))) refl))
+pub located-well : (d : Drive) (p0 p1 : List ℕ) (k : ℕ) (t : M.Destination) (v : Seen) → Well d p0 p1 → (d .loaded ≡ 0 → ⊥) → k < d .partitions → length (v .objects) ≡ count (partition k p0 p1) → Well ((locating d k t v) .drive) p0 p1
+unfolding locating
+located-well d p0 p1 k t v w l h e = placed-well d p0 p1 k _ w l h (omega (arith, e, went-there t _ (v .objects) (from (eqb k (d .current)) refl) .stays))
   where
-    from : ℕ
-    from = cond (eqb (targetOf d cmd) (d .current)) (d .position) 0
-
-    go : (t : Bool) → leb (objectOf cmd) (length (v .objects)) ≡ t → (cond t (M.straight from (objectOf cmd) M.done) (M.straight from (length (v .objects)) M.edge)) .to ≤ length (v .objects)
-    go true q = leb-true (objectOf cmd) (length (v .objects)) q
-    go false q = omega arith
+    from : (b : Bool) → eqb k (d .current) ≡ b → cond b (d .position) 0 ≤ length (v .objects)
+    from true q = rw (e, eqb-true k (d .current) q) (inside d p0 p1 (w .cart) l .place)
+    from false q = zero-le

@@ -68,8 +68,8 @@ module _ (rec p0 p1 sent received : List ℕ) (m : Mounted rec (cartridge p0 p1)
         same = same;
       }
 
-  located : (s : Slot) (v : Seen) → locating (decodeOf rec) (locateFirst s) v ≡ good (atPartition (decodeOf rec) (number s) 0)
-  unfolding locating locateTells M.toObject targetOf changesPartition partitionOf objectOf be bytes
+  located : (s : Slot) (v : Seen) → locating (decodeOf rec) (targetOf Locate (decodeOf rec) (locateFirst s)) (M.object (objectOf (locateFirst s))) v ≡ good (atPartition (decodeOf rec) (number s) 0)
+  unfolding locating locateTells M.locate M.toObject targetOf changesPartition partitionOf objectOf be bytes
   located slot0 v = rw (le-leb 0 (length (v .objects)) zero-le) refl
   located slot1 v = rw (le-leb 0 (length (v .objects)) zero-le) refl
 

@@ -79,7 +79,7 @@ reads-so b rec p0 p1 sent received f l a r =
 
 pub told-held : (counts f e i : Bool) (key asc ascq : ℕ) (z : ℤ) → key < 16 → Spellable (told counts f e i key asc ascq z)
 unfolding told
-told-held counts f e i key asc ascq z h = record { key-small = h; information-small = go (reports counts key) }
+told-held counts f e i key asc ascq z h = record { key-small = h; information-small = go (reports counts key z) }
   where
     go : (t : Bool) → cond t (wrapped z) 0 < 2 ^ 32
     go true = wrapped-lt z

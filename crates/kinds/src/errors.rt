@@ -2,9 +2,12 @@
 ghost use mathlib.Core.Path.{_≡_};
 ghost use Prim.Native.Nat.{_≤_};
 ghost use lib.ListN.{length};
-ghost use Rattle.codes.specs.declared.operation.Operation.the-variants.{Read, Write, Space, ModeSelect, ModeSense, ReadPosition};
+ghost use Rattle.codes.specs.declared.operation.Operation.the-variants.{Read, Write, Space, ModeSelect, ModeSense, ReadPosition, Locate16};
 ghost use Rattle.commands.specs.Tests.{bytesAsked, fieldError};
 use crate::numbers::ALL_PAGES;
+use crate::numbers::BY_END;
+use crate::numbers::BY_FILE;
+use crate::numbers::BY_OBJECT;
 use crate::numbers::LONG_FORM;
 use crate::numbers::NO_PAGE;
 use crate::numbers::OVER_BLOCKS;
@@ -39,7 +42,7 @@ fn is_write_wrong(d: Drive, cmd: &[u8]) -> bool
     objects::LARGEST_BLOCK < codes::transfer(cmd)
 }
 
-// SPACE: another code than 0, 1 and 3.
+// SPACE, of either length: another code than 0, 1 and 3.
 fn is_space_wrong(d: Drive, cmd: &[u8]) -> bool
     requires { ⌜ 5 ≤ length (now cmd) ⌝ }
     ensures { λ r. ⌜ r ≡ fieldError Space d (now (cmd .entry)) ⌝ }
@@ -86,6 +89,21 @@ fn is_form_wrong(d: Drive, cmd: &[u8]) -> bool
     form != LONG_FORM
 }
 
+// LOCATE (16): another destination than 0, 1 and 3.
+fn is_destination_wrong(d: Drive, cmd: &[u8]) -> bool
+    requires { ⌜ 5 ≤ length (now cmd) ⌝ }
+    ensures { λ r. ⌜ r ≡ fieldError Locate16 d (now (cmd .entry)) ⌝ }
+{
+    let to = codes::destination(cmd);
+    if to == BY_OBJECT {
+        return false;
+    }
+    if to == BY_FILE {
+        return false;
+    }
+    to != BY_END
+}
+
 // Whether a field is wrong beyond the masks.
 pub fn is_field_wrong(o: Operation, d: Drive, cmd: &[u8]) -> bool
     requires { ⌜ 5 ≤ length (now cmd) ⌝ }
@@ -106,6 +124,8 @@ pub fn is_field_wrong(o: Operation, d: Drive, cmd: &[u8]) -> bool
         Operation::LoadUnload => false,
         Operation::Locate => false,
         Operation::ReadPosition => is_form_wrong(d, cmd),
+        Operation::Space16 => is_space_wrong(d, cmd),
+        Operation::Locate16 => is_destination_wrong(d, cmd),
         Operation::NotServed => false,
     }
 }

@@ -1,8 +1,13 @@
 // What kind of command an operation is, by its number.
 ghost use mathlib.Core.Path.{_≡_};
+ghost use Prim.Native.Nat.{_≤_};
+ghost use lib.ListN.{length};
 ghost use Rattle.commands.specs.Kinds.{passesAttention, isServed, needsCartridge};
-ghost use Rattle.commands.specs.Kinds.{writes as Kinds·writes};
+ghost use Rattle.commands.specs.Kinds.{locates as Kinds·locates, writes as Kinds·writes};
+ghost use Rattle.commands.specs.Act.{namedPartition};
 use codes::ERASE;
+use codes::LOCATE;
+use codes::LOCATE_16;
 use codes::MODE_SELECT;
 use codes::MODE_SENSE;
 use codes::NOT_SERVED;
@@ -43,6 +48,29 @@ pub fn needs_cartridge(o: Operation) -> bool
         return false;
     }
     n != MODE_SENSE
+}
+
+// Whether it is LOCATE, of either length.
+pub fn locates(o: Operation) -> bool
+    ensures { λ r. ⌜ r ≡ Kinds·locates o ⌝ }
+{
+    let n = codes::number_of(o);
+    if n == LOCATE {
+        return true;
+    }
+    n == LOCATE_16
+}
+
+// The partition that LOCATE names.
+pub fn named_partition(o: Operation, cmd: &[u8]) -> u8
+    requires { ⌜ 9 ≤ length (now cmd) ⌝ }
+    ensures { λ r. ⌜ r ≡ namedPartition o (now (cmd .entry)) ⌝ }
+{
+    let n = codes::number_of(o);
+    if n == LOCATE_16 {
+        return codes::partition16(cmd);
+    }
+    codes::partition(cmd)
 }
 
 // Whether write protection stops it.

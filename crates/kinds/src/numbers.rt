@@ -18,6 +18,13 @@ pub const OVER_FILEMARKS: u8 = 1;
 
 pub const TO_END: u8 = 3;
 
+// The destinations of LOCATE (16).
+pub const BY_OBJECT: u8 = 0;
+
+pub const BY_FILE: u8 = 1;
+
+pub const BY_END: u8 = 3;
+
 // READ POSITION's forms.
 pub const SHORT_FORM: u8 = 0x00;
 

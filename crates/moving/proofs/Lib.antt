@@ -1,3 +1,4 @@
-pub mod Counts
+pub mod Magnitudes
+pub mod Beyond
 pub mod Located
 pub mod Spaced

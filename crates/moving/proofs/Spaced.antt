@@ -1,35 +1,35 @@
 -- What SPACE leaves, return by return: a walk is a movement, so it ends where the movement ends, for its reason, and with its residue.
 -- Assumes nothing.
-use Prim.Native.Nat.{ℕ, zero, suc, _+_, _-_, _^_, _≤_, _<_}
+use Prim.Native.Nat.{ℕ, zero, suc, _+_, _-_, _^_, _≤_, _<_, min}
 use native.Mathlib.Nat.{not-suc-le-zero}
 use native.Mathlib.Omega.{arith}
-use mathlib.Core.Path.{_≡_, refl, ap, _∙_}
-use mathlib.Core.Bool.{Bool, true, cond}
+use mathlib.Core.Path.{_≡_, refl, sym, ap, _∙_, subst}
+use mathlib.Core.Bool.{true, cond}
 use mathlib.Core.List.{List}
 use borrow.Author.Tests.{eq-eqb, ne-eqb}
-use lib.Dec.{eqb}
+use lib.Dec.{eqb, leb}
 use lib.IntN.{ℤ, pos, negsuc, negℤ, subℕ, _-ℤ_}
 use lib.ListN.{drop, length-drop}
-use Rattle.words.specs.Signed.{wrapped}
-use Rattle.words.proofs.Wraps.{subℕ-cases}
+use Rattle.words.specs.Signed.{wrapped, fits}
+use Rattle.words.proofs.Wraps.{subℕ-cases, wrapped-sub}
 use Rattle.objects.specs.Object.{Object}
 use Rattle.objects.specs.Movement.{Code, blocks, filemarks, done, marked, edge, Walk, walk, before, Move, ahead, astern, space, residue, toEndOfData}
-use Rattle.objects.proofs.Walk.{walk-within, length-before}
+use Rattle.objects.proofs.Walk.{walk-within, counted-le, length-before}
+use Rattle.objects.proofs.Residue.{left-back}
 use Rattle.image.specs.Image.{count, sound, objects}
 use Rattle.image.proofs.Facts.{sound-parts}
 use Rattle.image.proofs.Objects.{length-objects}
 use Rattle.sense.specs.declared.Sense.{Sense}
-use Rattle.sense.specs.Sense.{told}
-use Rattle.sense.proofs.Packing.{told-signed}
+use Rattle.sense.proofs.Packing.{one-less}
 use Rattle.record.specs.declared.drive.Drive.{Drive}
-use Rattle.codes.specs.Fields.{spaceCodeOf, spaceCountOf}
 use Rattle.walks.specs.declared.Why.the-variants.{Done, Marked, Edge}
 use Rattle.walks.specs.declared.Walked.{Walked}
 use Rattle.walks.specs.Walks.{walkOf, whyOf}
 use Rattle.deeds.specs.declared.deeds.Left.{Left}
-use Rattle.commands.specs.Act.{Seen, carrying, good, checked, at, moved, spaceTells, filemarkMet, endMet, beginningMet, overBlocks, movement, spacing}
+use Rattle.commands.specs.Act.{Seen, Deed, carrying, good, checked, at, moved, spaceTells, filemarkMet, endMet, beginningMet, overBlocks, toEnd, movement, spacing}
 use Rattle.commands.specs.Call.{seenOf}
 use Rattle.deeds.specs.Left.{leftBy}
+use Rattle.moving.proofs.Beyond.{most, far-on, far-back}
 
 -- ---- what the code counts
 
@@ -73,7 +73,7 @@ module _ (d f : Drive) (v : Seen) (k z : ℤ) (m : Move) (there : f ≡ at d (m 
     unfolding spaceTells
     leaves-beginning n h y e = q ∙ rw (there, e, ← rest, h, y) refl
 
--- ---- the residue: n less c going on; going back -n less -c, by the difference of their encodings q and a
+-- ---- the residue going on: n less c
 
 rest-on : (n c : ℕ) → pos n -ℤ pos c ≡ subℕ n c
 rest-on n zero = subℕ-cases (λ z. pos n -ℤ pos zero ≡ z) n 0 (λ h. absurd (not-suc-le-zero h)) (λ h. ap pos (let e : n + 0 ≡ n - 0 = omega arith in e))
@@ -83,9 +83,24 @@ minus : (n : ℕ) → subℕ 0 n ≡ negℤ (pos n)
 minus zero = refl
 minus (suc n) = subℕ-cases (λ z. z ≡ negsuc n) 0 (suc n) (λ h. ap negsuc (let e : suc n - 1 ≡ n = omega arith in e)) (λ h. absurd (not-suc-le-zero h))
 
-told-back : (n c q a : ℕ) → q ≡ wrapped (subℕ 0 n) → a ≡ wrapped (subℕ 0 c) → (f e i : Bool) (key asc ascq : ℕ)
-    → told true f e i key asc ascq (subℕ q a) ≡ told true f e i key asc ascq (negℤ (pos n) -ℤ negℤ (pos c))
-told-back n c q a eq ea f e i key asc ascq = rw (eq ∙ ap wrapped (minus n), ea ∙ ap wrapped (minus c)) (told-signed true f e i key asc ascq (negℤ (pos n)) (negℤ (pos c)))
+-- ---- going back by n, of which c are counted: -n less -c is the opposite of what is left
+
+opposite : (n c : ℕ) → c ≤ n → negℤ (pos n) -ℤ negℤ (pos c) ≡ negℤ (pos (n - c))
+opposite zero zero h = refl
+opposite zero (suc c) h = absurd (not-suc-le-zero h)
+opposite (suc n) c h = left-back n c h
+
+fits-back : (n : ℕ) → leb n (2 ^ 31) ≡ fits (negℤ (pos n))
+unfolding fits
+fits-back zero = refl
+fits-back (suc n) = one-less n (2 ^ 31)
+
+pub shown-back : (n c q a : ℕ) → c ≤ n → q ≡ wrapped (subℕ 0 n) → a ≡ wrapped (subℕ 0 c)
+    → (leb (n - c) (2 ^ 31) ≡ fits (negℤ (pos n) -ℤ negℤ (pos c))) × (wrapped (subℕ q a) ≡ wrapped (negℤ (pos n) -ℤ negℤ (pos c)))
+shown-back n c q a h eq ea = (fits-back (n - c) ∙ ap fits (sym (opposite n c h)), rw (eq ∙ ap wrapped (minus n), ea ∙ ap wrapped (minus c)) (wrapped-sub (negℤ (pos n)) (negℤ (pos c))))
+
+pub counts-within : (c : Code) (n : ℕ) (xs : List Object) (w : Walk) → w ≡ walk c n xs → w .counted ≤ n
+counts-within c n xs w e = subst (λ (x : Walk). x .counted ≤ n) (sym e) (counted-le c n xs)
 
 -- ---- on: w is the walk over what lies from the position on
 
@@ -136,24 +151,41 @@ module _ (d : Drive) (s : List ℕ) (c : Code) (n : ℕ) (asked : 0 < n) (w : Wa
     unfolding astern
     back-done y q = rw (← went-back) (leaves-good d f (seenOf s) (negℤ (pos n)) _ (astern (d .position) (walkOf w)) there rest-is-back r (ap whyOf y) q)
 
-    module _ (q a : ℕ) (eq : q ≡ wrapped (subℕ 0 n)) (ea : a ≡ wrapped (subℕ 0 (w .counted))) (t : Sense) (left : r ≡ leftBy (carrying 0 (checked f t))) where
-      pub back-marked : w .why ≡ Marked → t ≡ filemarkMet (subℕ q a) → r ≡ leftBy (moved d (seenOf s) (negℤ (pos n)) (space c (negℤ (pos n)) (d .position) (objects s)))
+    module _ (t : Sense) (left : r ≡ leftBy (carrying 0 (checked f t))) where
+      pub back-marked : w .why ≡ Marked → t ≡ filemarkMet (negℤ (pos n) -ℤ negℤ (pos (w .counted))) → r ≡ leftBy (moved d (seenOf s) (negℤ (pos n)) (space c (negℤ (pos n)) (d .position) (objects s)))
       unfolding astern
-      back-marked y et = rw (← went-back) (leaves-filemark d f (seenOf s) (negℤ (pos n)) _ (astern (d .position) (walkOf w)) there rest-is-back r t left (ap whyOf y) (et ∙ told-back n (w .counted) q a eq ea _ _ _ _ _ _))
+      back-marked y et = rw (← went-back) (leaves-filemark d f (seenOf s) (negℤ (pos n)) _ (astern (d .position) (walkOf w)) there rest-is-back r t left (ap whyOf y) et)
 
-      pub back-edge : w .why ≡ Edge → t ≡ beginningMet (subℕ q a) → r ≡ leftBy (moved d (seenOf s) (negℤ (pos n)) (space c (negℤ (pos n)) (d .position) (objects s)))
+      pub back-edge : w .why ≡ Edge → t ≡ beginningMet (negℤ (pos n) -ℤ negℤ (pos (w .counted))) → r ≡ leftBy (moved d (seenOf s) (negℤ (pos n)) (space c (negℤ (pos n)) (d .position) (objects s)))
       unfolding astern
-      back-edge y et = rw (← went-back) (leaves-beginning d f (seenOf s) (negℤ (pos n)) _ (astern (d .position) (walkOf w)) there rest-is-back r t left (n - 1) (negated n asked) (ap whyOf y) (et ∙ told-back n (w .counted) q a eq ea _ _ _ _ _ _))
+      back-edge y et = rw (← went-back) (leaves-beginning d f (seenOf s) (negℤ (pos n)) _ (astern (d .position) (walkOf w)) there rest-is-back r t left (n - 1) (negated n asked) (ap whyOf y) et)
 
--- ---- SPACE: to the end, or by the count k
+-- ---- SPACE by the code and the count z: to the end; or on or back by n, which is what z asks for but for what no image holds
 
-module _ (d : Drive) (cmd s : List ℕ) (code : ℕ) (ec : code ≡ spaceCodeOf cmd) (r : Left) where
-  pub spaced-to-end : code ≡ 3 → (n : ℕ) → n ≡ count s → (f : Drive) → f ≡ at d n → r ≡ leftBy (carrying 0 (good f)) → r ≡ leftBy (spacing d cmd (seenOf s))
+module _ (d : Drive) (s : List ℕ) (code : ℕ) (z : ℤ) (r : Left) where
+  pub spaced-to-end : code ≡ toEnd → (n : ℕ) → n ≡ count s → (f : Drive) → f ≡ at d n → r ≡ leftBy (carrying 0 (good f)) → r ≡ leftBy (spacing d code z (seenOf s))
   unfolding spacing movement toEndOfData spaceTells seenOf
-  spaced-to-end h n en f there q = q ∙ rw (there, en, ← ec, eq-eqb code 3 h, length-objects s) refl
+  spaced-to-end h n en f there q = q ∙ rw (there, en, eq-eqb code toEnd h, length-objects s) refl
 
-  pub spaced : (code ≡ 3 → ⊥) → (z : ℤ) → z ≡ spaceCountOf cmd → (k : ℤ) → z ≡ k
-      → r ≡ leftBy (moved d (seenOf s) k (space (cond (eqb code overBlocks) blocks filemarks) k (d .position) (objects s)))
-      → r ≡ leftBy (spacing d cmd (seenOf s))
-  unfolding spacing movement seenOf
-  spaced h z ez k e q = q ∙ rw (← e, ez, ← ec, ne-eqb code 3 h) refl
+  module _ (h : sound s ≡ true) (l : d .position ≤ count s) (u : code ≡ toEnd → ⊥) where
+    abbrev c : Code
+    c = cond (eqb code overBlocks) blocks filemarks
+
+    abbrev by : ℤ → Deed
+    by k = moved d (seenOf s) k (space c k (d .position) (objects s))
+
+    is-by : leftBy (by z) ≡ leftBy (spacing d code z (seenOf s))
+    unfolding spacing movement seenOf
+    is-by = rw (ne-eqb code toEnd u) refl
+
+    module _ (m n : ℕ) (en : n ≡ min m most) where
+      pub spaced-on : z ≡ pos m → r ≡ leftBy (by (pos n)) → r ≡ leftBy (spacing d code z (seenOf s))
+      spaced-on ez q = q ∙ ap leftBy (ap (λ (k : ℕ). by (pos k)) en ∙ far-on d s (seenOf s) h l c m ∙ ap by (sym ez)) ∙ is-by
+
+      pub spaced-back : 0 < m → z ≡ negℤ (pos m) → r ≡ leftBy (by (negℤ (pos n))) → r ≡ leftBy (spacing d code z (seenOf s))
+      spaced-back some ez q = q ∙ ap leftBy (ap (λ (k : ℕ). by (negℤ (pos k))) en ∙ far-back d s (seenOf s) h l c m some ∙ ap by (sym ez)) ∙ is-by
+
+-- ---- the code and the count are those of a command block
+
+pub spelt : (d : Drive) (v : Seen) (code k : ℕ) → code ≡ k → (z y : ℤ) → z ≡ y → (r : Left) → r ≡ leftBy (spacing d code z v) → r ≡ leftBy (spacing d k y v)
+spelt d v code k e z y f r q = q ∙ rw (e, f) refl

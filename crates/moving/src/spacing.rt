@@ -1,21 +1,27 @@
-// SPACE: the walk over blocks or filemarks, where it ends, and what it tells.
+// SPACE, of either length: the walk over blocks or filemarks, where it ends, and what it tells.
 ghost use mathlib.Core.Path.{_≡_};
 ghost use mathlib.Core.Bool.{true, cond};
 ghost use Prim.Native.Nat.{_≤_, _<_};
 ghost use lib.Dec.{eqb};
-ghost use lib.IntN.{pos, negℤ, natAbs};
+ghost use lib.IntN.{pos, negℤ, _-ℤ_};
 ghost use lib.ListN.{length, drop};
 ghost use Rattle.objects.specs.Movement.{blocks, filemarks, walk, before};
 ghost use Rattle.objects.specs.Movement.{space as Movement·space};
 ghost use Rattle.image.specs.Image.{count, sound, objects};
+ghost use Rattle.sense.specs.Sense.{Shows};
+ghost use Rattle.codes.specs.Fields.{spaceCodeOf, spaceCountOf, spaceCount16Of};
 ghost use Rattle.walks.specs.Walks.{walkOf};
 ghost use Rattle.commands.specs.Act.{moved, overBlocks, spacing};
 ghost use Rattle.commands.specs.Call.{seenOf};
 ghost use Rattle.deeds.specs.Left.{leftBy};
+use crate::counts::bounded;
+use crate::counts::magnitude;
 use deeds::Left;
 use kinds::OVER_BLOCKS;
 use kinds::TO_END;
 use record::Drive;
+use sense::PAST_32_BITS;
+use sense::Residue;
 use walks::Walked;
 use walks::Why;
 use walks::blocks_back;
@@ -60,7 +66,22 @@ fn space_on(s: &[u8], d: Drive, code: u8, n: u32) -> Left
     }
 }
 
-// SPACE by the count -n: the residue is -n less -counted, each in two's complement.
+// The residue of a SPACE by the count -n: -n less -counted, each in two's complement.
+fn residue_back(n: u32, counted: u32) -> Residue
+    requires { ⌜ counted ≤ n ⌝ }
+    ensures { λ r. ⌜ Shows r (negℤ (pos n) -ℤ negℤ (pos counted)) ⌝ }
+{
+    let fits = n - counted <= PAST_32_BITS;
+    let request = words::difference(0, n);
+    let actual = words::difference(0, counted);
+    Residue {
+        fits,
+        request,
+        actual,
+    }
+}
+
+// SPACE by the count -n.
 fn space_back(s: &[u8], d: Drive, code: u8, n: u32) -> Left
     requires { ⌜ (sound (now s) ≡ true) × (d .position ≤ count (now s)) × (0 < n) ⌝ }
     ensures { λ r. ⌜ r ≡ leftBy (moved d (seenOf (now (s .entry))) (negℤ (pos n)) (Movement·space (cond (eqb code overBlocks) blocks filemarks) (negℤ (pos n)) (d .position) (objects (now (s .entry))))) ⌝ }
@@ -68,39 +89,46 @@ fn space_back(s: &[u8], d: Drive, code: u8, n: u32) -> Left
     let w = walk_back(s, code, d.position, n);
     let why = w.why;
     let gone = deeds::at(d, d.position - w.crossed);
-    let request = words::difference(0, n);
-    let actual = words::difference(0, w.counted);
+    let rest = residue_back(n, w.counted);
     match why {
         Why::Done => deeds::good(gone, 0),
-        Why::Marked => deeds::checked(gone, deeds::filemark_met(request, actual), 0),
-        Why::Edge => deeds::checked(gone, deeds::beginning_met(request, actual), 0),
+        Why::Marked => deeds::checked(gone, deeds::filemark_told(rest), 0),
+        Why::Edge => deeds::checked(gone, deeds::beginning_met(rest), 0),
     }
 }
 
-// How many a count asks for, whichever way it goes. No step of it leaves its type, at any count of 32 bits.
-fn magnitude(count: i32) -> u32
-    ensures { λ r. ⌜ r ≡ natAbs count ⌝ }
+// SPACE by a code and a count, at the position of a sound partition.
+fn space_by(s: &[u8], d: Drive, code: u8, steps: i64) -> Left
+    requires { ⌜ (sound (now s) ≡ true) × (d .position ≤ count (now s)) ⌝ }
+    ensures { λ r. ⌜ r ≡ leftBy (spacing d code steps (seenOf (now (s .entry)))) ⌝ }
 {
-    if count < 0 {
-        return (-1 - count) as u32 + 1;
-    }
-    count as u32
-}
-
-// SPACE at the position of a sound partition.
-pub fn space(s: &[u8], d: Drive, cmd: &[u8]) -> Left
-    requires { ⌜ (sound (now s) ≡ true) × (d .position ≤ count (now s)) × (5 ≤ length (now cmd)) ⌝ }
-    ensures { λ r. ⌜ r ≡ leftBy (spacing d (now (cmd .entry)) (seenOf (now (s .entry)))) ⌝ }
-{
-    let code = codes::space_code(cmd);
     if code == TO_END {
         let end = image::count_of(s);
         return deeds::good(deeds::at(d, end), 0);
     }
-    let count = codes::space_count(cmd);
-    let n = magnitude(count);
-    if count < 0 {
+    let n = bounded(magnitude(steps));
+    if steps < 0 {
         return space_back(s, d, code, n);
     }
     space_on(s, d, code, n)
+}
+
+// SPACE (6).
+pub fn space(s: &[u8], d: Drive, cmd: &[u8]) -> Left
+    requires { ⌜ (sound (now s) ≡ true) × (d .position ≤ count (now s)) × (5 ≤ length (now cmd)) ⌝ }
+    ensures { λ r. ⌜ r ≡ leftBy (spacing d (spaceCodeOf (now (cmd .entry))) (spaceCountOf (now (cmd .entry))) (seenOf (now (s .entry)))) ⌝ }
+{
+    let code = codes::space_code(cmd);
+    let steps = codes::space_count(cmd);
+    space_by(s, d, code, steps)
+}
+
+// SPACE (16): another decoder of the count.
+pub fn space16(s: &[u8], d: Drive, cmd: &[u8]) -> Left
+    requires { ⌜ (sound (now s) ≡ true) × (d .position ≤ count (now s)) × (12 ≤ length (now cmd)) ⌝ }
+    ensures { λ r. ⌜ r ≡ leftBy (spacing d (spaceCodeOf (now (cmd .entry))) (spaceCount16Of (now (cmd .entry))) (seenOf (now (s .entry)))) ⌝ }
+{
+    let code = codes::space_code(cmd);
+    let steps = codes::space_count16(cmd);
+    space_by(s, d, code, steps)
 }

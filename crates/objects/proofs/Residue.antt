@@ -31,11 +31,11 @@ sub-pos a b h = go (ltb a b) refl
 both-zero : (a b : ℕ) → a ≡ 0 → b ≡ 0 → pos a ≡ negℤ (pos b)
 both-zero a b e f = rw (e, f)
 
-left-on : (n c : ℕ) → c ≤ n → pos n -ℤ pos c ≡ pos (n - c)
+pub left-on : (n c : ℕ) → c ≤ n → pos n -ℤ pos c ≡ pos (n - c)
 left-on n zero h = ap pos (let z : n + 0 ≡ n - 0 = omega arith in z)
 left-on n (suc c) h = sub-pos n (suc c) h
 
-left-back : (n c : ℕ) → c ≤ suc n → negsuc n -ℤ negℤ (pos c) ≡ negℤ (pos (suc n - c))
+pub left-back : (n c : ℕ) → c ≤ suc n → negsuc n -ℤ negℤ (pos c) ≡ negℤ (pos (suc n - c))
 left-back n zero h = sub-neg 0 (suc n) (omega arith)
 left-back n (suc c) h = go (decLe (suc c) n)
   where

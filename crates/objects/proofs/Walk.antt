@@ -1,6 +1,6 @@
 -- How far a movement goes and what it counts: by induction on what lies ahead, so that both directions share one proof.
 -- Assumes nothing.
-use Prim.Native.Nat.{ℕ, zero, suc, _-_, _≤_, zero-le, suc-le-suc, max, min}
+use Prim.Native.Nat.{ℕ, zero, suc, _-_, _≤_, _<_, zero-le, suc-le-suc, max, min}
 use native.Mathlib.Nat.{add-zero}
 use native.Mathlib.Omega.{arith}
 use mathlib.Core.Path.{_≡_, refl, sym, ap, _∙_, subst}
@@ -10,7 +10,7 @@ use lib.Dec.{T, leb, leb→le}
 use lib.ListN.{length, drop, length-drop}
 use lib.IntN.{ℤ, pos, negsuc}
 use Rattle.objects.specs.Object.{Object, filemark, block}
-use Rattle.objects.specs.Movement.{Code, blocks, filemarks, done, edge, walk, before, ahead, astern, space, straight, toEndOfData, toObject}
+use Rattle.objects.specs.Movement.{Code, blocks, filemarks, done, edge, counting, uncounted, Walk, walk, before, ahead, astern, space, straight, toEndOfData, toObject, toFile, Destination, object, file, endOfData, locate}
 
 -- a walk crosses nothing that does not lie ahead
 pub walk-within : (c : Code) (n : ℕ) (xs : List Object) → (walk c n xs) .crossed ≤ length xs
@@ -51,6 +51,17 @@ walk-done blocks (suc n) (filemark ∷ xs) e = cc
 walk-done blocks (suc n) (block bs ∷ xs) e = ap suc (walk-done blocks n xs e)
 walk-done filemarks (suc n) (filemark ∷ xs) e = ap suc (walk-done filemarks n xs e)
 walk-done filemarks (suc n) (block bs ∷ xs) e = walk-done filemarks (suc n) xs e
+
+-- a walk that is asked for more than lies ahead goes as far, whatever it is asked for
+pub walk-beyond : (c : Code) (n m : ℕ) (xs : List Object) → length xs < n → length xs < m → walk c n xs ≡ walk c m xs
+unfolding walk
+walk-beyond c zero m xs h k = absurd (let z : ⊥ = omega arith in z)
+walk-beyond c (suc n) zero xs h k = absurd (let z : ⊥ = omega arith in z)
+walk-beyond c (suc n) (suc m) [] h k = refl
+walk-beyond blocks (suc n) (suc m) (filemark ∷ xs) h k = refl
+walk-beyond blocks (suc n) (suc m) (block bs ∷ xs) h k = ap counting (walk-beyond blocks n m xs (omega arith) (omega arith))
+walk-beyond filemarks (suc n) (suc m) (filemark ∷ xs) h k = ap counting (walk-beyond filemarks n m xs (omega arith) (omega arith))
+walk-beyond filemarks (suc n) (suc m) (block bs ∷ xs) h k = ap uncounted (walk-beyond filemarks (suc n) (suc m) xs (omega arith) (omega arith))
 
 -- before position p lie p objects, and the i-th of them from p is number p - 1 - i
 pub length-before : (p : ℕ) (xs : List Object) → length (before p xs) ≡ p
@@ -102,3 +113,13 @@ went-object p k xs h = go (leb k (length xs)) refl
     go : (t : Bool) → leb k (length xs) ≡ t → Went p ((cond t (straight p k done) (straight p (length xs) edge)) .to) ((cond t (straight p k done) (straight p (length xs) edge)) .distance) (length xs)
     go true e = let l = leb→le k (length xs) (subst T (sym e) tt) in record { apart = omega arith; within = omega arith; stays = omega arith }
     go false e = record { apart = omega arith; within = omega arith; stays = omega arith }
+
+pub went-file : (p f : ℕ) (xs : List Object) → p ≤ length xs → Went p ((toFile p f xs) .to) ((toFile p f xs) .distance) (length xs)
+unfolding toFile
+went-file p f xs h = let w = walk-within filemarks f xs in record { apart = omega arith; within = omega arith; stays = omega arith }
+
+pub went-there : (t : Destination) (p : ℕ) (xs : List Object) → p ≤ length xs → Went p ((locate t p xs) .to) ((locate t p xs) .distance) (length xs)
+unfolding locate
+went-there (object k) p xs h = went-object p k xs h
+went-there (file f) p xs h = went-file p f xs h
+went-there endOfData p xs h = went-end p xs h

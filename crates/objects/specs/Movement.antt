@@ -1,4 +1,4 @@
--- The movements of SPACE and LOCATE (01, "What each command does"): one walk over what lies ahead, in either direction; and straight to a number.
+-- The movements of SPACE and LOCATE (01, "What each command does"; Q-1): one walk over what lies ahead, in either direction; and straight to a number.
 -- Assumes nothing: these are definitions.
 use Prim.Native.Nat.{ℕ, zero, suc, _+_, _-_}
 use mathlib.Core.Bool.{cond}
@@ -83,3 +83,19 @@ toEndOfData p xs = straight p (length xs) done
 -- LOCATE: to object k, or to end of data where it lies above
 unfoldable pub toObject : ℕ → ℕ → List Object → Move
 toObject p k xs = cond (leb k (length xs)) (straight p k done) (straight p (length xs) edge)
+
+-- Q-1: LOCATE "to a file number (just after that many filemarks, 0 being the beginning)": where the walk over f filemarks from the beginning ends,
+-- which is end of data where there are fewer
+unfoldable pub toFile : ℕ → ℕ → List Object → Move
+toFile p f xs = straight p (walk filemarks f xs .crossed) (walk filemarks f xs .why)
+
+-- Q-1: "LOCATE (16) goes to an object number, to a file number .. or to end of data"
+pub data Destination : Type 0 where
+  object file : ℕ → Destination
+  endOfData : Destination
+
+-- LOCATE from position p of the objects xs
+unfoldable pub locate : Destination → ℕ → List Object → Move
+locate (object k) p xs = toObject p k xs
+locate (file f) p xs = toFile p f xs
+locate endOfData p xs = toEndOfData p xs

@@ -31,6 +31,7 @@ pub fn select(d: Drive, cmd: &[u8], sent: &[u8]) -> Left
         return deeds::good(d, 0);
     }
     if !is_list_right(n, sent) {
+        let rest = sense::residue_of(0, 0);
         let told = sense::told(
             false,
             false,
@@ -39,8 +40,7 @@ pub fn select(d: Drive, cmd: &[u8], sent: &[u8]) -> Left
             sense::ILLEGAL_REQUEST,
             sense::INVALID_LIST_FIELD,
             sense::UNQUALIFIED,
-            0,
-            0,
+            rest,
         );
         return deeds::checked(d, told, 0);
     }

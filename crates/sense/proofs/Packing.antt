@@ -1,21 +1,21 @@
 -- How the code's masks and shifts make the sense bytes of the definitions, and take them apart.
 -- Assumes nothing.
-use mathlib.Core.Path.{_≡_, refl}
-use mathlib.Core.Bool.{Bool, true, false, cond, not}
+use mathlib.Core.Path.{_≡_, refl, sym, _∙_}
+use mathlib.Core.Bool.{Bool, true, false, cond, not, _&&_, _||_}
 use mathlib.Core.List.{List, [], _∷_}
-use Prim.Native.Nat.{ℕ, _+_, _*_, _/_, _%_, _<_}
+use Prim.Native.Nat.{ℕ, suc, _+_, _-_, _*_, _/_, _%_, _^_, _<_, _≤_}
 use native.Mathlib.Omega.{arith}
-use borrow.Author.Tests.{eq-eqb, ne-eqb, not-true, not-false}
+use borrow.Author.Tests.{eq-eqb, ne-eqb, not-true, not-false, lt-ltb, le-ltb, ltb-true, ltb-false, leb-true, leb-false}
 use lib.Bits.{bitAnd, bitOr, or-shifted, and-mask}
-use lib.Dec.{eqb}
-use lib.IntN.{ℤ, subℕ, _-ℤ_}
+use lib.Dec.{eqb, leb, ltb}
+use lib.IntN.{ℤ, pos, negsuc, subℕ}
 use lib.ListN.{getD}
 use mir.Val.{boolByte}
 use Rattle.words.specs.Words.{be}
-use Rattle.words.specs.Signed.{wrapped}
+use Rattle.words.specs.Signed.{wrapped, fits}
 use Rattle.words.proofs.Stores.{low8, four-bytes}
 use Rattle.words.proofs.Flags.{flag}
-use Rattle.words.proofs.Wraps.{wrapped-sub}
+use Rattle.words.proofs.Wraps.{subℕ-cases}
 use Rattle.sense.specs.declared.Sense.{Sense}
 use Rattle.sense.specs.Sense.{noSense, blankCheck, volumeOverflow, byte0, byte2, senseBytes, partsOf, reports, told}
 
@@ -72,29 +72,65 @@ apart b n e = λ i. record {
   ascq = getD b 13 0;
 }
 
+-- ---- whether a difference of two numbers fits 32 signed bits
+
+pub one-less : (n m : ℕ) → leb (suc n) m ≡ ltb n m
+one-less n m = go (leb (suc n) m) refl
+  where
+    go : (t : Bool) → leb (suc n) m ≡ t → t ≡ ltb n m
+    go true e = sym (lt-ltb n m (leb-true (suc n) m e))
+    go false e = sym (le-ltb n m (let h = leb-false (suc n) m e in omega arith))
+
+module _ (a b : ℕ) where
+  pub fits-above : b ≤ a → ltb (a - b) (2 ^ 31) ≡ fits (subℕ a b)
+  unfolding fits
+  fits-above h = subℕ-cases (λ z. ltb (a - b) (2 ^ 31) ≡ fits z) a b (λ l. absurd (let w : ⊥ = omega arith in w)) (λ l. refl)
+
+  pub fits-below : a < b → leb (b - a) (2 ^ 31) ≡ fits (subℕ a b)
+  unfolding fits
+  fits-below h = subℕ-cases (λ z. leb (b - a) (2 ^ 31) ≡ fits z) a b (λ l. let e : b - a ≡ suc (b - suc a) = omega arith in rw e (one-less (b - suc a) (2 ^ 31))) (λ l. absurd (let w : ⊥ = omega arith in w))
+
 -- ---- when VALID is set, test by test
 
-module _ (counts : Bool) (key : ℕ) where
-  pub not-counted : not counts ≡ true → false ≡ reports counts key
+lost : (x : Bool) → false ≡ x && false
+lost true = refl
+lost false = refl
+
+kept : (x : Bool) → x ≡ x && true
+kept true = refl
+kept false = refl
+
+module _ (counts : Bool) (key : ℕ) (z : ℤ) where
+  pub not-counted : not counts ≡ true → false ≡ reports counts key z
   unfolding reports
   not-counted h = rw (not-true counts h) refl
 
-  module _ (h : not counts ≡ false) where
-    pub by-none : key ≡ noSense → true ≡ reports counts key
+  module _ (t : Bool) (et : t ≡ fits z) where
+    pub not-fitting : not t ≡ true → false ≡ reports counts key z
     unfolding reports
-    by-none e = rw (not-false counts h, eq-eqb key noSense e) refl
+    not-fitting h = rw (← et, not-true t h) (lost (counts && (eqb key noSense || eqb key blankCheck || eqb key volumeOverflow)))
 
-    module _ (n : key ≡ noSense → ⊥) where
-      pub by-blank : key ≡ blankCheck → true ≡ reports counts key
+    module _ (h : not counts ≡ false) (f : not t ≡ false) where
+      pub by-none : key ≡ noSense → true ≡ reports counts key z
       unfolding reports
-      by-blank e = rw (not-false counts h, ne-eqb key noSense n, eq-eqb key blankCheck e) refl
+      by-none e = rw (not-false counts h, ← et, not-false t f, eq-eqb key noSense e) refl
 
-      pub by-overflow : (key ≡ blankCheck → ⊥) → eqb key volumeOverflow ≡ reports counts key
-      unfolding reports
-      by-overflow m = rw (not-false counts h, ne-eqb key noSense n, ne-eqb key blankCheck m) refl
+      module _ (n : key ≡ noSense → ⊥) where
+        pub by-blank : key ≡ blankCheck → true ≡ reports counts key z
+        unfolding reports
+        by-blank e = rw (not-false counts h, ← et, not-false t f, ne-eqb key noSense n, eq-eqb key blankCheck e) refl
+
+        pub by-overflow : (key ≡ blankCheck → ⊥) → eqb key volumeOverflow ≡ reports counts key z
+        unfolding reports
+        by-overflow m = rw (not-false counts h, ← et, not-false t f, ne-eqb key noSense n, ne-eqb key blankCheck m) (kept (eqb key volumeOverflow))
+
+-- two residues that do not fit are told alike
+pub told-unfit : (counts f e i : Bool) (key asc ascq : ℕ) (a b : ℤ) → fits a ≡ false → fits b ≡ false → told counts f e i key asc ascq a ≡ told counts f e i key asc ascq b
+unfolding told reports
+told-unfit counts f e i key asc ascq a b x y = rw (x, y, ← lost (counts && (eqb key noSense || eqb key blankCheck || eqb key volumeOverflow))) refl
 
 -- the information is the residue where VALID is set, else 0
-module _ (counts f e i : Bool) (key asc ascq : ℕ) (z : ℤ) (v : Bool) (ev : v ≡ reports counts key) (n : ℕ) where
+module _ (counts f e i : Bool) (key asc ascq : ℕ) (z : ℤ) (v : Bool) (ev : v ≡ reports counts key z) (n : ℕ) where
   pub told-valid : v ≡ true → n ≡ wrapped z → _≡_ {A = Sense} (record { valid = v; filemark = f; eom = e; ili = i; key = key; information = n; asc = asc; ascq = ascq }) (told counts f e i key asc ascq z)
   unfolding told
   told-valid h en = rw (← ev, h, en) refl
@@ -102,9 +138,3 @@ module _ (counts f e i : Bool) (key asc ascq : ℕ) (z : ℤ) (v : Bool) (ev : v
   pub told-plain : v ≡ false → _≡_ {A = Sense} (record { valid = v; filemark = f; eom = e; ili = i; key = key; information = 0; asc = asc; ascq = ascq }) (told counts f e i key asc ascq z)
   unfolding told
   told-plain h = rw (← ev, h) refl
-
--- ---- the residue of signed counts: subtract the encodings, and the information is the encoding of count − signed movement
-
-pub told-signed : (counts f e i : Bool) (key asc ascq : ℕ) (a b : ℤ) → told counts f e i key asc ascq (subℕ (wrapped a) (wrapped b)) ≡ told counts f e i key asc ascq (a -ℤ b)
-unfolding told
-told-signed counts f e i key asc ascq a b = rw (wrapped-sub a b) refl

@@ -1,14 +1,16 @@
 -- The eighteen sense bytes (01, "What each command does": "Sense: ..").
 -- Assumes nothing: these are definitions.
 use Prim.Native.Nat.{ℕ, _+_, _/_, _%_}
+use mathlib.Core.Path.{_≡_}
 use mathlib.Core.Bool.{Bool, false, cond, _&&_, _||_}
 use mathlib.Core.List.{List, [], _∷_, _++_}
 use lib.Dec.{eqb}
-use lib.IntN.{ℤ, pos}
+use lib.IntN.{ℤ, pos, subℕ}
 use lib.ListN.{getD}
 use Rattle.words.specs.Words.{be, bytes, zeros}
-use Rattle.words.specs.Signed.{wrapped}
+use Rattle.words.specs.Signed.{wrapped, fits}
 use Rattle.sense.specs.declared.Sense.{Sense}
+use Rattle.sense.specs.declared.Residue.{Residue}
 
 abbrev pub senseLength : ℕ
 senseLength = 18
@@ -122,22 +124,27 @@ partsOf b = record {
 
 -- ---- what a command tells
 
--- "VALID is set for READ, WRITE, WRITE FILEMARKS and SPACE with key 0, 8 or D": `counts` says that the command is one of these four
-unfoldable pub reports : Bool → ℕ → Bool
-reports counts key = counts && (eqb key noSense || eqb key blankCheck || eqb key volumeOverflow)
+-- "VALID is set for READ, WRITE, WRITE FILEMARKS and SPACE with key 0, 8 or D": `counts` says that the command is one of these four;
+-- Q-1: "residues that don't fit 32 signed bits are reported with VALID 0 and information 0"
+unfoldable pub reports : Bool → ℕ → ℤ → Bool
+reports counts key residue = counts && (eqb key noSense || eqb key blankCheck || eqb key volumeOverflow) && fits residue
 
 -- "otherwise it and information are 0"; else the information is the residue, in 32 bits
 unfoldable pub told : Bool → Bool → Bool → Bool → ℕ → ℕ → ℕ → ℤ → Sense
 told counts filemark eom ili key asc ascq residue = record {
-  valid = reports counts key;
+  valid = reports counts key residue;
   filemark = filemark;
   eom = eom;
   ili = ili;
   key = key;
-  information = cond (reports counts key) (wrapped residue) 0;
+  information = cond (reports counts key residue) (wrapped residue) 0;
   asc = asc;
   ascq = ascq;
 }
+
+-- what the code has of a residue z: whether it fits, and two numbers of 32 bits whose difference encodes it
+abbrev pub Shows : Residue → ℤ → Type 0
+Shows r z = (r .fits ≡ fits z) × (wrapped (subℕ (r .request) (r .actual)) ≡ wrapped z)
 
 -- key, ASC and ASCQ alone
 abbrev pub plainly : ℕ → ℕ → ℕ → Sense

@@ -2,8 +2,9 @@
 ghost use mathlib.Core.Path.{_≡_};
 ghost use mathlib.Core.Bool.{cond};
 ghost use Prim.Native.Nat.{_+_, _%_};
-ghost use lib.IntN.{subℕ};
-ghost use Rattle.sense.specs.Sense.{senseBytes, partsOf, emptySense, attentionSense};
+ghost use lib.IntN.{ℤ, subℕ};
+ghost use Rattle.words.specs.Signed.{fits as Signed·fits};
+ghost use Rattle.sense.specs.Sense.{senseBytes, partsOf, Shows, emptySense, attentionSense};
 ghost use Rattle.sense.specs.Sense.{reports as Sense·reports, told as Sense·told, plainly as Sense·plainly};
 
 // How many bytes a sense has.
@@ -133,11 +134,46 @@ pub fn parts_of(b: &[u8; SENSE_LENGTH]) -> Sense
     }
 }
 
-// Whether VALID is set: `counts` says that the command is READ, WRITE, WRITE FILEMARKS or SPACE.
-fn reports(counts: bool, key: u8) -> bool
-    ensures { λ r. ⌜ r ≡ Sense·reports counts key ⌝ }
+// A residue: whether it fits 32 signed bits, and the request and the actual, each in 32 bits, whose difference it is.
+pub struct Residue {
+    pub fits: bool,
+    pub request: u32,
+    pub actual: u32,
+}
+
+// The first number that 32 signed bits do not hold; its opposite is the least that they do.
+pub const PAST_32_BITS: u32 = 0x8000_0000;
+
+// Whether request - actual fits 32 signed bits.
+fn fits(request: u32, actual: u32) -> bool
+    ensures { λ r. ⌜ r ≡ Signed·fits (subℕ request actual) ⌝ }
+{
+    if actual <= request {
+        return request - actual < PAST_32_BITS;
+    }
+    actual - request <= PAST_32_BITS
+}
+
+// The residue of a request and an actual that are not below zero.
+pub fn residue_of(request: u32, actual: u32) -> Residue
+    ensures { λ r. ⌜ Shows r (subℕ request actual) ⌝ }
+{
+    let fits = fits(request, actual);
+    Residue {
+        fits,
+        request,
+        actual,
+    }
+}
+
+// Whether VALID is set: `counts` says that the command is READ, WRITE, WRITE FILEMARKS or SPACE, `fits` that its residue fits 32 signed bits.
+fn reports(counts: bool, key: u8, fits: bool) -> bool
+    ensures { λ r. ⌜ ((z : ℤ) → fits ≡ Signed·fits z → r ≡ Sense·reports counts key z) ⌝ }
 {
     if !counts {
+        return false;
+    }
+    if !fits {
         return false;
     }
     if key == NO_SENSE {
@@ -149,7 +185,7 @@ fn reports(counts: bool, key: u8) -> bool
     key == VOLUME_OVERFLOW
 }
 
-// What a command tells, with the residue request - actual where VALID is set.
+// What a command tells, with its residue where VALID is set.
 pub fn told(
     counts: bool,
     filemark: bool,
@@ -158,13 +194,12 @@ pub fn told(
     key: u8,
     asc: u8,
     ascq: u8,
-    request: u32,
-    actual: u32,
+    rest: Residue,
 ) -> Sense
-    ensures { λ r. ⌜ r ≡ Sense·told counts filemark eom ili key asc ascq (subℕ request actual) ⌝ }
+    ensures { λ r. ⌜ ((z : ℤ) → Shows rest z → r ≡ Sense·told counts filemark eom ili key asc ascq z) ⌝ }
 {
-    let valid = reports(counts, key);
-    let residue = words::difference(request, actual);
+    let valid = reports(counts, key, rest.fits);
+    let residue = words::difference(rest.request, rest.actual);
     let information = if valid { residue } else { 0 };
     Sense {
         valid,
@@ -182,7 +217,8 @@ pub fn told(
 pub fn plainly(key: u8, asc: u8, ascq: u8) -> [u8; SENSE_LENGTH]
     ensures { λ r. ⌜ r ≡ senseBytes (Sense·plainly key asc ascq) ⌝ }
 {
-    bytes_of(told(false, false, false, false, key, asc, ascq, 0, 0))
+    let rest = residue_of(0, 0);
+    bytes_of(told(false, false, false, false, key, asc, ascq, rest))
 }
 
 // The empty sense.

@@ -14,9 +14,9 @@ use Rattle.image.proofs.Facts.{Sound, sound-of}
 use Rattle.record.specs.declared.drive.Drive.{Drive}
 use Rattle.record.specs.Record.{wellFormed}
 use Rattle.codes.specs.declared.operation.Operation.{Operation}
-use Rattle.codes.specs.Fields.{changesPartition, partitionOf}
+use Rattle.codes.specs.Fields.{changesPartition}
 use Rattle.commands.specs.Kinds.{locates, writes}
-use Rattle.commands.specs.Act.{targetOf}
+use Rattle.commands.specs.Act.{namedPartition, targetOf}
 use Rattle.commands.specs.Call.{Lent, lent, partition, looksAt, seenOf, nothing, seen, inserted}
 use Rattle.commands.proofs.Classes.{not-locate}
 use Rattle.commands.proofs.Faultless.{loaded, empty-handed, well-of, inside, sound-there, looks-in, seen-there}
@@ -25,7 +25,7 @@ use Rattle.step.specs.Served.{guardedNow}
 -- ---- the partition that a command looks at
 
 module _ (d : Drive) (p0 p1 : List ℕ) (w : wellFormed d ≡ true) (i : inserted d p0 p1 ≡ true) (z : d .loaded ≡ 0 → ⊥) (o : Operation) (cmd : List ℕ)
-    (n : locates o && changesPartition cmd && leb (d .partitions) (partitionOf cmd) ≡ false) where
+    (n : locates o && changesPartition cmd && leb (d .partitions) (namedPartition o cmd) ≡ false) where
   there : looksAt o d cmd < d .partitions
   there = looks-in o d cmd (loaded d w z .current-in) n
 
@@ -36,7 +36,7 @@ module _ (d : Drive) (p0 p1 : List ℕ) (w : wellFormed d ≡ true) (i : inserte
   unfolding looksAt
   place-looked = go (locates o)
     where
-      go : (a : Bool) → cond a true (leb (d .position) (count (partition (cond a (targetOf d cmd) (d .current)) p0 p1))) ≡ true
+      go : (a : Bool) → cond a true (leb (d .position) (count (partition (cond a (targetOf o d cmd) (d .current)) p0 p1))) ≡ true
       go true = refl
       go false = le-leb (d .position) (count (partition (d .current) p0 p1)) (inside d p0 p1 (well-of d p0 p1 w i .cart) z .place)
 

@@ -15,11 +15,10 @@ use Rattle.sense.specs.Sense.{senseBytes, plainly, attentionSense}
 use Rattle.record.specs.declared.drive.Drive.{Drive}
 use Rattle.record.specs.Record.{wellFormed, withSense}
 use Rattle.codes.specs.declared.operation.Operation.{Operation}
-use Rattle.codes.specs.declared.operation.Operation.the-variants.{Locate}
-use Rattle.codes.specs.Codes.{codeOf, tooShort, numberOf, operationOf}
+use Rattle.codes.specs.Codes.{codeOf, tooShort, operationOf}
 use Rattle.deeds.specs.declared.deeds.Left.{Left}
 use Rattle.commands.specs.Stop as S
-use Rattle.commands.specs.Kinds.{needsCartridge, writes}
+use Rattle.commands.specs.Kinds.{needsCartridge, locates, writes}
 use Rattle.commands.specs.Tests.{tests}
 use Rattle.commands.specs.Act.{Seen, unattended, targetOf}
 use Rattle.commands.specs.Step.{checkAnswer, stopped, acted}
@@ -41,17 +40,17 @@ use Rattle.step.proofs.Looked.{sound-looked, place-looked, seen-loaded,
 
 -- ---- the partition looked at
 
-module _ (o : Operation) (d : Drive) (cmd : List ℕ) (n : ℕ) (en : n ≡ numberOf o) where
-  pub locate-long-enough : tooShort cmd ≡ false → o ≡ operationOf (codeOf cmd) → n ≡ numberOf Locate → 9 ≤ length cmd
-  locate-long-enough l eo h = let z = locate-long cmd l (sym eo ∙ named o Locate n en h) in omega arith
+module _ (o : Operation) (d : Drive) (cmd : List ℕ) (b : Bool) (eb : b ≡ locates o) where
+  pub locate-long-enough : tooShort cmd ≡ false → o ≡ operationOf (codeOf cmd) → b ≡ true → 9 ≤ length cmd
+  locate-long-enough l eo h = let z = locate-long cmd l (ap locates (sym eo) ∙ sym eb ∙ h) in omega arith
 
-  pub looks-target : n ≡ numberOf Locate → (k : ℕ) → k ≡ targetOf d cmd → k ≡ looksAt o d cmd
+  pub looks-target : b ≡ true → (k : ℕ) → k ≡ targetOf o d cmd → k ≡ looksAt o d cmd
   unfolding looksAt
-  looks-target h k e = rw (named o Locate n en h) e
+  looks-target h k e = rw (← eb, h) e
 
-  pub looks-current : (n ≡ numberOf Locate → ⊥) → d .current ≡ looksAt o d cmd
+  pub looks-current : b ≡ false → d .current ≡ looksAt o d cmd
   unfolding looksAt
-  looks-current h = rw (← en, ne-eqb n (numberOf Locate) h) refl
+  looks-current h = rw (← eb, h) refl
 
 -- ---- the act
 

@@ -61,8 +61,8 @@ fn looks_at(o: Operation, d: Drive, cmd: &[u8]) -> u8
     requires { ⌜ (tooShort (now cmd) ≡ false) × (o ≡ operationOf (codeOf (now cmd))) ⌝ }
     ensures { λ r. ⌜ r ≡ looksAt o d (now (cmd .entry)) ⌝ }
 {
-    if codes::number_of(o) == codes::LOCATE {
-        return deeds::target_of(d, cmd);
+    if kinds::locates(o) {
+        return deeds::target_of(o, d, cmd);
     }
     d.current
 }

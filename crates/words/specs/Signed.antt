@@ -1,7 +1,8 @@
--- Two's complement: a count read as an integer, and an integer in 32 bits (01: "Negative residues wrap to 32 bits in two's complement").
+-- Two's complement: a count read as an integer, and an integer in 32 bits (01: "Negative residues wrap to 32 bits in two's complement";
+-- Q-1: "residues that don't fit 32 signed bits").
 -- Assumes nothing: these are definitions.
 use Prim.Native.Nat.{ℕ, suc, _+_, _-_, _%_, _^_}
-use mathlib.Core.Bool.{cond}
+use mathlib.Core.Bool.{Bool, cond}
 use lib.Dec.{ltb}
 use lib.IntN.{ℤ, pos, negsuc}
 
@@ -13,3 +14,8 @@ signed half x = cond (ltb x half) (pos x) (negsuc (half + half - suc x))
 unfoldable pub wrapped : ℤ → ℕ
 wrapped (pos n) = n % 2 ^ 32
 wrapped (negsuc n) = 2 ^ 32 - suc (n % 2 ^ 32)
+
+-- z fits 32 signed bits: it is −2^31 to 2^31 − 1
+unfoldable pub fits : ℤ → Bool
+fits (pos n) = ltb n (2 ^ 31)
+fits (negsuc n) = ltb n (2 ^ 31)

@@ -5,14 +5,14 @@ ghost use lib.IntN.{subℕ};
 ghost use Rattle.words.specs.Signed.{signed, wrapped};
 
 // The integer that a count of 24 bits stands for.
-pub fn signed24(x: u32) -> i32
+pub fn signed24(x: u32) -> i64
     requires { ⌜ x < 2 ^ 24 ⌝ }
     ensures { λ r. ⌜ r ≡ signed (2 ^ 23) x ⌝ }
 {
     if x < 0x80_0000 {
-        return x as i32;
+        return x as i64;
     }
-    -1 - (0xff_ffff - x) as i32
+    -1 - (0xff_ffff - x) as i64
 }
 
 // The integer that a count of 64 bits stands for.

@@ -1,5 +1,6 @@
 -- The information is the residue where VALID is set, else 0.
 -- Assumes nothing.
+use mathlib.Core.Path.{_∙_}
 use borrow.Author.Needs.{needs}
 use Rattle.sense.proofs.Packing.{told-valid, told-plain}
 use Rattle.sense.proofs.told.Statement.{statement}
@@ -12,10 +13,10 @@ difference-requires : tie.Need-difference-requires
 difference-requires c κs = search needs
 
 returns : tie.Need-returns
-returns c = told-valid _ _ _ _ _ _ _ _ _ (c .before .before .reports .ensures) _ (c .if1 .taken) (c .before .difference .ensures)
+returns c z h = told-valid _ _ _ _ _ _ _ z _ (c .before .before .reports .ensures z (h .0)) _ (c .if1 .taken) (c .before .difference .ensures ∙ h .1)
 
 returns-2 : tie.Need-returns-2
-returns-2 c = told-plain _ _ _ _ _ _ _ _ _ (c .before .before .reports .ensures) 0 (c .if1 .left)
+returns-2 c z h = told-plain _ _ _ _ _ _ _ z _ (c .before .before .reports .ensures z (h .0)) 0 (c .if1 .left)
 
 pub told-spec : {M : Type 1} → statement M
 told-spec = tie.close (tie.spec reports-requires difference-requires returns returns-2)

@@ -3,7 +3,7 @@
 use Prim.Native.Nat.{_^_}
 use mathlib.Core.Path.{ap, _∙_}
 use mir.Facts.{toZ-ofZ}
-use mir.Syntax.{w32}
+use mir.Syntax.{w64}
 use borrow.Author.Needs.{needs}
 use Rattle.codes.specs.Fields.{spaceCountOf}
 use Rattle.words.proofs.Laws.{be-lt}
@@ -19,7 +19,7 @@ signed24-requires c κs = rw (c .be24-at .ensures) (be-lt 3 (c .before .before .
 
 returns : tie.Need-returns
 unfolding spaceCountOf
-returns c = toZ-ofZ {w = w32} (record { sfits = c .signed24 .ok }) ∙ c .signed24 .ensures ∙ ap (signed (2 ^ 23)) (c .before .be24-at .ensures)
+returns c = toZ-ofZ {w = w64} (record { sfits = c .signed24 .ok }) ∙ c .signed24 .ensures ∙ ap (signed (2 ^ 23)) (c .before .be24-at .ensures)
 
 pub space-count-spec : {M : Type 1} → statement M
 space-count-spec = tie.close (tie.spec be24-at-requires signed24-requires returns)

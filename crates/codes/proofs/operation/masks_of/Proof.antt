@@ -49,7 +49,13 @@ returns-14 : tie.Need-returns-14
 returns-14 c = arm (λ (r : Row). spread (r .masks)) (c .match .keys14) refl
 
 returns-15 : tie.Need-returns-15
-returns-15 c = last-arm (λ (r : Row). spread (r .masks)) (c .match .rest)
+returns-15 c = arm (λ (r : Row). spread (r .masks)) (c .match .keys15) refl
+
+returns-16 : tie.Need-returns-16
+returns-16 c = arm (λ (r : Row). spread (r .masks)) (c .match .keys16) refl
+
+returns-17 : tie.Need-returns-17
+returns-17 c = last-arm (λ (r : Row). spread (r .masks)) (c .match .rest)
 
 pub masks-of-spec : {M : Type 1} → statement M
 masks-of-spec =
@@ -69,4 +75,6 @@ masks-of-spec =
     returns-12
     returns-13
     returns-14
-    returns-15)
+    returns-15
+    returns-16
+    returns-17)

@@ -15,11 +15,14 @@ with-bit counts a b z e t q = q ∙ ap (λ (eom : Bool). told counts false eom f
 eom-at-end-requires : tie.Need-eom-at-end-requires
 eom-at-end-requires c κs = search needs
 
+residue-of-requires : tie.Need-residue-of-requires
+residue-of-requires c κs = search needs
+
 told-requires : tie.Need-told-requires
 told-requires c κs = search needs
 
 returns : tie.Need-returns
-returns c = with-bit _ _ _ _ (c .before .eom-at-end .ensures) _ (c .told .ensures)
+returns c = with-bit _ _ _ _ (c .before .before .eom-at-end .ensures) _ (c .told .ensures _ (c .before .residue-of .ensures))
 
 pub end-told-spec : {M : Type 1} → statement M
-end-told-spec = tie.close (tie.spec eom-at-end-requires told-requires returns)
+end-told-spec = tie.close (tie.spec eom-at-end-requires residue-of-requires told-requires returns)

@@ -69,6 +69,18 @@ is-form-wrong-requires c κs = search needs
 enum-told-15 : tie.Need-enum-told-15
 enum-told-15 c = search needs
 
+is-space-wrong-requires-2 : tie.Need-is-space-wrong-requires-2
+is-space-wrong-requires-2 c κs = search needs
+
+enum-told-16 : tie.Need-enum-told-16
+enum-told-16 c = search needs
+
+is-destination-wrong-requires : tie.Need-is-destination-wrong-requires
+is-destination-wrong-requires c κs = search needs
+
+enum-told-17 : tie.Need-enum-told-17
+enum-told-17 c = search needs
+
 returns : tie.Need-returns
 unfolding fieldError
 returns c = rw (c .enum-told .given .1) refl
@@ -127,7 +139,15 @@ returns-14 c = rw (c .before .enum-told14 .given .1) (c .is-form-wrong .ensures)
 
 returns-15 : tie.Need-returns-15
 unfolding fieldError
-returns-15 c = rw (c .enum-told15 .given .1) refl
+returns-15 c = rw (c .before .enum-told15 .given .1) (c .is-space-wrong2 .ensures)
+
+returns-16 : tie.Need-returns-16
+unfolding fieldError
+returns-16 c = rw (c .before .enum-told16 .given .1) (c .is-destination-wrong .ensures)
+
+returns-17 : tie.Need-returns-17
+unfolding fieldError
+returns-17 c = rw (c .enum-told17 .given .1) refl
 
 pub is-field-wrong-spec : {M : Type 1} → statement M
 is-field-wrong-spec =
@@ -154,6 +174,10 @@ is-field-wrong-spec =
     enum-told-14
     is-form-wrong-requires
     enum-told-15
+    is-space-wrong-requires-2
+    enum-told-16
+    is-destination-wrong-requires
+    enum-told-17
     returns
     returns-2
     returns-3
@@ -168,4 +192,6 @@ is-field-wrong-spec =
     returns-12
     returns-13
     returns-14
-    returns-15)
+    returns-15
+    returns-16
+    returns-17)

@@ -1,7 +1,7 @@
 -- One law for each end of the walk back: done, a filemark met, the beginning met. No walk leaves the partition.
 -- Assumes nothing.
 use borrow.Author.Needs.{needs}
-use Rattle.moving.proofs.Spaced.{stays-above, back-done, back-marked, back-edge}
+use Rattle.moving.proofs.Spaced.{stays-above, counts-within, back-done, back-marked, back-edge}
 use Rattle.moving.proofs.spacing.space_back.Statement.{statement}
 use Rattle.moving.proofs.spacing.space_back.Tie as tie
 
@@ -14,11 +14,8 @@ sub-at c = stays-above _ _ _ _ _ (c .before .before .walk-back .ensures)
 at-requires : tie.Need-at-requires
 at-requires c κs = search needs
 
-difference-requires : tie.Need-difference-requires
-difference-requires c κs = search needs
-
-difference-requires-2 : tie.Need-difference-requires-2
-difference-requires-2 c κs = search needs
+residue-back-requires : tie.Need-residue-back-requires
+residue-back-requires c κs = counts-within _ _ _ _ (c .before .before .before .walk-back .ensures)
 
 enum-told : tie.Need-enum-told
 enum-told c = search needs
@@ -29,8 +26,8 @@ good-requires c κs = search needs
 enum-told-2 : tie.Need-enum-told-2
 enum-told-2 c = search needs
 
-filemark-met-requires : tie.Need-filemark-met-requires
-filemark-met-requires c κs = search needs
+filemark-told-requires : tie.Need-filemark-told-requires
+filemark-told-requires c κs = search needs
 
 checked-requires : tie.Need-checked-requires
 checked-requires c κs = search needs
@@ -45,13 +42,13 @@ checked-requires-2 : tie.Need-checked-requires-2
 checked-requires-2 c κs = search needs
 
 returns : tie.Need-returns
-returns c = back-done _ _ _ _ (c .before .before .before .before .before .before .before .before .before .before .pre .2) _ (c .before .before .before .before .before .before .before .before .walk-back .ensures) _ (c .before .before .before .before .before .at .ensures) _ (c .before .enum-told .given .1) (c .good2 .ensures)
+returns c = back-done _ _ _ _ (c .before .before .before .before .before .before .before .before .before .pre .2) _ (c .before .before .before .before .before .before .before .walk-back .ensures) _ (c .before .before .before .before .at .ensures) _ (c .before .enum-told .given .1) (c .good2 .ensures)
 
 returns-2 : tie.Need-returns-2
-returns-2 c = back-marked _ _ _ _ (c .before .before .before .before .before .before .before .before .before .before .before .pre .2) _ (c .before .before .before .before .before .before .before .before .before .walk-back .ensures) _ (c .before .before .before .before .before .before .at .ensures) _ _ _ (c .before .before .before .before .before .difference .ensures) (c .before .before .before .before .difference2 .ensures) _ (c .checked .ensures) (c .before .before .enum-told2 .given .1) (c .before .filemark-met .ensures)
+returns-2 c = back-marked _ _ _ _ (c .before .before .before .before .before .before .before .before .before .before .pre .2) _ (c .before .before .before .before .before .before .before .before .walk-back .ensures) _ (c .before .before .before .before .before .at .ensures) _ _ (c .checked .ensures) (c .before .before .enum-told2 .given .1) (c .before .filemark-told .ensures _ (c .before .before .before .before .residue-back .ensures))
 
 returns-3 : tie.Need-returns-3
-returns-3 c = back-edge _ _ _ _ (c .before .before .before .before .before .before .before .before .before .before .before .pre .2) _ (c .before .before .before .before .before .before .before .before .before .walk-back .ensures) _ (c .before .before .before .before .before .before .at .ensures) _ _ _ (c .before .before .before .before .before .difference .ensures) (c .before .before .before .before .difference2 .ensures) _ (c .checked2 .ensures) (c .before .before .enum-told3 .given .1) (c .before .beginning-met .ensures)
+returns-3 c = back-edge _ _ _ _ (c .before .before .before .before .before .before .before .before .before .before .pre .2) _ (c .before .before .before .before .before .before .before .before .walk-back .ensures) _ (c .before .before .before .before .before .at .ensures) _ _ (c .checked2 .ensures) (c .before .before .enum-told3 .given .1) (c .before .beginning-met .ensures _ (c .before .before .before .before .residue-back .ensures))
 
 pub space-back-spec : {M : Type 1} → statement M
 space-back-spec =
@@ -60,12 +57,11 @@ space-back-spec =
     walk-back-requires
     sub-at
     at-requires
-    difference-requires
-    difference-requires-2
+    residue-back-requires
     enum-told
     good-requires
     enum-told-2
-    filemark-met-requires
+    filemark-told-requires
     checked-requires
     enum-told-3
     beginning-met-requires

@@ -17,6 +17,9 @@ returns c = nothing-selected _ _ _ _ (c .before .before .allocation .ensures) _ 
 is-list-right-requires : tie.Need-is-list-right-requires
 is-list-right-requires c κs = list-lent _ _ _ (c .before .allocation .ensures) (c .before .before .before .before .pre .1) (c .before .before .before .before .pre .2) (c .if1 .left)
 
+residue-of-requires : tie.Need-residue-of-requires
+residue-of-requires c κs = search needs
+
 told-requires : tie.Need-told-requires
 told-requires c κs = search needs
 
@@ -24,7 +27,7 @@ checked-requires : tie.Need-checked-requires
 checked-requires c κs = search needs
 
 returns-2 : tie.Need-returns-2
-returns-2 c = not-selected _ _ _ _ (c .before .before .before .before .before .allocation .ensures) _ (c .before .before .before .before .if1 .left) _ (c .before .before .before .is-list-right .ensures) (c .before .before .if2 .taken) _ (c .before .told .ensures) (c .checked .ensures)
+returns-2 c = not-selected _ _ _ _ (c .before .before .before .before .before .before .allocation .ensures) _ (c .before .before .before .before .before .if1 .left) _ (c .before .before .before .before .is-list-right .ensures) (c .before .before .before .if2 .taken) _ (c .before .told .ensures _ (c .before .before .residue-of .ensures)) (c .checked .ensures)
 
 cast-if3 : tie.Need-cast-if3
 cast-if3 c = search needs
@@ -61,6 +64,7 @@ select-spec =
     good-requires
     returns
     is-list-right-requires
+    residue-of-requires
     told-requires
     checked-requires
     returns-2

@@ -2,7 +2,7 @@
 -- Assumes nothing.
 use Prim.Native.Nat.{_-_, _^_}
 use native.Mathlib.Omega.{arith}
-use mir.Syntax.{w32}
+use mir.Syntax.{w64}
 use borrow.Author.Needs.{needs}
 use Rattle.words.proofs.Wraps.{read-low, missing-fits, read-high}
 use Rattle.words.proofs.signed.signed24.Statement.{statement}
@@ -12,7 +12,7 @@ cast-result : tie.Need-cast-result
 cast-result c = search needs
 
 returns : tie.Need-returns
-returns c = read-low w32 (2 ^ 23) (c .before .args .x) (omega arith) (omega arith)
+returns c = read-low w64 (2 ^ 23) (c .before .args .x) (omega arith) (omega arith)
 
 sub-result : tie.Need-sub-result
 sub-result c = search needs
@@ -21,10 +21,10 @@ cast-result-2 : tie.Need-cast-result-2
 cast-result-2 c = search needs
 
 sub-result-2 : tie.Need-sub-result-2
-sub-result-2 c = missing-fits w32 (16777215 - c .before .args .x) (omega arith)
+sub-result-2 c = missing-fits w64 (16777215 - c .before .args .x) (omega arith)
 
 returns-2 : tie.Need-returns-2
-returns-2 c = read-high w32 (2 ^ 23) (c .before .args .x) (16777215 - c .before .args .x) (omega arith) (omega arith) (omega arith)
+returns-2 c = read-high w64 (2 ^ 23) (c .before .args .x) (16777215 - c .before .args .x) (omega arith) (omega arith) (omega arith)
 
 pub signed24-spec : {M : Type 1} → statement M
 signed24-spec =

@@ -1,9 +1,9 @@
--- Below zero it is one more than -1 less the count, and both fit 32 bits at any count of 32 bits; else it is the count.
+-- Below zero it is one more than -1 less the count, and both fit 64 bits at any count of 64 bits; else it is the count.
 -- Assumes nothing.
 use borrow.Author.Needs.{needs}
-use Rattle.moving.proofs.Counts.{less-fits, less-cast, more-fits, back-magnitude, on-cast}
-use Rattle.moving.proofs.spacing.magnitude.Statement.{statement}
-use Rattle.moving.proofs.spacing.magnitude.Tie as tie
+use Rattle.moving.proofs.Magnitudes.{less-fits, less-cast, more-fits, back-magnitude, on-cast}
+use Rattle.moving.proofs.counts.magnitude.Statement.{statement}
+use Rattle.moving.proofs.counts.magnitude.Tie as tie
 
 sub-result : tie.Need-sub-result
 sub-result c = less-fits _ (c .before .fits .count) (c .if1 .taken)
