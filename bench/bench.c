@@ -104,6 +104,12 @@ static void locate(void)
     sink = command(block, sizeof block, NULL, 0, NULL, 0);
 }
 
+static void locate_16(void)
+{
+    static const uint8_t block[BYTES_16] = {[0] = LOCATE_16, [10] = 10000 >> 8, [11] = 10000 & 0xff};
+    sink = command(block, sizeof block, NULL, 0, NULL, 0);
+}
+
 static void read_tile(void)
 {
     static const uint8_t block[BYTES_6] = {READ, 0, 0, 0x80, 0};
@@ -154,6 +160,33 @@ static void space_filemarks(void)
     sink = command(block, sizeof block, NULL, 0, NULL, 0);
 }
 
+/* The same in sixteen bytes: SPACE (16) over as many, LOCATE (16) to the file behind them, and more than there are. */
+static void space_16(void)
+{
+    static const uint8_t block[BYTES_16] = {[0] = SPACE_16, [1] = FILEMARKS, [9] = 0x01, [10] = 0x86, [11] = 0xa0};
+    put_position(0);
+    sink = command(block, sizeof block, NULL, 0, NULL, 0);
+}
+
+static void locate_file(void)
+{
+    static const uint8_t block[BYTES_16] = {[0] = LOCATE_16, [1] = TO_FILE, [9] = 0x01, [10] = 0x86, [11] = 0xa0};
+    sink = command(block, sizeof block, NULL, 0, NULL, 0);
+}
+
+static void space_most(void)
+{
+    static const uint8_t block[BYTES_16] = {SPACE_16, FILEMARKS, 0, 0, 0x7f, 0xff, 0xff, 0xff, 0xff, 0xff, 0xff, 0xff};
+    put_position(0);
+    sink = command(block, sizeof block, NULL, 0, NULL, 0);
+}
+
+static void locate_most(void)
+{
+    static const uint8_t block[BYTES_16] = {LOCATE_16, TO_FILE, 0, 0, 0xff, 0xff, 0xff, 0xff, 0xff, 0xff, 0xff, 0xff};
+    sink = command(block, sizeof block, NULL, 0, NULL, 0);
+}
+
 static void plain_space(void) { sink = plain_filemarks(image.at, image.length, 100000); }
 
 static uint8_t asked[BYTES_10];
@@ -168,7 +201,7 @@ struct work {
     const struct build *by;
 };
 
-enum { WORKS = 5 };
+enum { WORKS = 8 };
 
 static double spent(const struct work *work, int repeat)
 {
@@ -200,7 +233,7 @@ static void took(int n, const struct work works[], double best[])
 static void row(const char *what, double first, const char *than, double other)
 {
     int digits = first < 1000 ? 1 : 0;
-    printf("%-52s %10.*f %-34s %10.*f %6.2f\n", what, digits, first, than, digits, other, first / other);
+    printf("%-52s %10.*f %-36s %10.*f %6.2f\n", what, digits, first, than, digits, other, first / other);
 }
 
 /* The same work by the earlier build, if it was timed. */
@@ -216,6 +249,14 @@ static void compare(const char *what, void (*work)(void), const char *than, stru
     took(2 + EARLIER_BUILDS, (const struct work[]){{work, &ours}, other, {work, &earlier}}, best);
     row(what, best[0], than, best[1]);
     earlier_row(best[0], best[2]);
+}
+
+/* Work that no earlier build does. */
+static void compare_new(const char *what, void (*work)(void), const char *than, struct work other)
+{
+    double best[2];
+    took(2, (const struct work[]){{work, &ours}, other}, best);
+    row(what, best[0], than, best[1]);
 }
 
 /* k as make_image has it, or any bytes. */
@@ -270,10 +311,29 @@ static void transfer(void (*work)(void), void (*copy)(void), const char *what, c
     row(alone, best[0] - best[2], "memcpy", best[1] - best[2]);
 }
 
+/* Moves over the 100,000 filemarks of an image, each against its pass and plain C's walk; and in sixteen bytes against
+ * the short form, which an earlier build has too. */
+static void walks(void)
+{
+    double best[8];
+    took(7 + EARLIER_BUILDS,
+         (const struct work[]){{space_filemarks, &ours}, {plain_space, NULL}, {plain_pass, NULL}, {space_16, &ours},
+                               {locate_file, &ours}, {space_most, &ours}, {locate_most, &ours},
+                               {space_filemarks, &earlier}},
+         best);
+    row("SPACE over 100,000 filemarks, with the pass", best[0], "pass and plain C", best[1] + best[2]);
+    earlier_row(best[0], best[7]);
+    row("SPACE (16) over 100,000 filemarks", best[3], "pass and plain C", best[1] + best[2]);
+    row("", best[3], "SPACE (6) over as many", best[0]);
+    row("LOCATE (16) to file 100,000", best[4], "pass and plain C", best[1] + best[2]);
+    row("", best[4], "SPACE (6) over as many", best[0]);
+    row("SPACE (16) over 2^63 - 1 filemarks", best[5], "SPACE (16) over as many as there are", best[3]);
+    row("LOCATE (16) to file 2^64 - 1", best[6], "LOCATE (16) to the last file", best[4]);
+}
+
 int main(void)
 {
-    double best[4];
-    printf("%-52s %10s %-34s %10s %6s\n", "the library", "ns", "against", "ns", "ratio");
+    printf("%-52s %10s %-36s %10s %6s\n", "the library", "ns", "against", "ns", "ratio");
     passes(32768, 0, "soundness, 32,768 entries, no filemarks");
     passes(32768, 16, "soundness, 32,768 entries, one filemark in sixteen");
     passes(32768, 2, "soundness, 32,768 entries, half of them filemarks");
@@ -293,6 +353,7 @@ int main(void)
     mount(&image, &none);
     compare("TEST UNIT READY among 20,000 objects", test_unit_ready, "its pass", (struct work){pass, &ours});
     compare("LOCATE among 20,000 objects", locate, "its pass", (struct work){pass, &ours});
+    compare_new("LOCATE (16) among 20,000 objects", locate_16, "its pass", (struct work){pass, &ours});
     transfer(read_tile, pass_and_copy_out, "READ of 32 KiB among 20,000 objects", "READ of 32 KiB, without the pass");
     transfer(write_tile, pass_and_copy_in, "WRITE of 32 KiB behind 20,000 objects",
              "WRITE of 32 KiB, without the pass");
@@ -307,12 +368,7 @@ int main(void)
 
     image = make_image(200000, 1, 2, 0);
     mount(&image, &none);
-    took(3 + EARLIER_BUILDS,
-         (const struct work[]){
-             {space_filemarks, &ours}, {plain_space, NULL}, {plain_pass, NULL}, {space_filemarks, &earlier}},
-         best);
-    row("SPACE over 100,000 filemarks, with the pass", best[0], "pass and plain C", best[1] + best[2]);
-    earlier_row(best[0], best[3]);
+    walks();
     free(image.at);
     free(blocks);
     return 0;

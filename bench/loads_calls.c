@@ -5,8 +5,9 @@
 
 enum { SPARE = 64, EVERY_16TH = 16 };
 
-/* Entries that are looked at to act on them: those of an object and of the one before it, its end or its kind. */
-enum again { NONE_AGAIN = 0, SOME_AGAIN = 4 };
+/* Entries that are looked at to act on them: those of an object and of the one before it, its end or its kind; or those
+ * that a walk crosses. */
+enum again { NONE_AGAIN = 0, SOME_AGAIN = 4, WALKED_AGAIN = 10000 };
 
 /* What a call is lent: a copy at a place of its own, which stays there so that no later call has the same. */
 static struct image lent(const struct image *image)
@@ -74,6 +75,12 @@ int main(void)
     static const uint8_t ready[BYTES_6] = {TEST_UNIT_READY}, rewinding[BYTES_6] = {REWIND};
     static const uint8_t position[BYTES_10] = {READ_POSITION};
     static const uint8_t locating[BYTES_10] = {[0] = LOCATE, [AT_OBJECT + 3] = 200};
+    static const uint8_t locating_16[BYTES_16] = {[0] = LOCATE_16, [AT_IDENTIFIER + 7] = 200};
+    /* Just after 625 filemarks, of which every sixteenth object is one; and on over as many. */
+    static const uint8_t filing[BYTES_16] = {
+        [0] = LOCATE_16, [1] = TO_FILE, [AT_IDENTIFIER + 6] = 625 >> 8, [AT_IDENTIFIER + 7] = 625 & 0xff};
+    static const uint8_t spacing[BYTES_16] = {
+        [0] = SPACE_16, [1] = FILEMARKS, [AT_COUNT_16 + 6] = 625 >> 8, [AT_COUNT_16 + 7] = 625 & 0xff};
     static const uint8_t reading[BYTES_6] = {READ, 0, 0, 0, 1}, writing[BYTES_6] = {WRITE, 0, 0, 0, 1};
     static const uint32_t sizes[] = {1, 3, 4, 7, 8, 9, 15, 16, 17, 31, 32, 33, 1000, 20000};
     enum { MANY = 20000, FEW = 333 };
@@ -82,6 +89,9 @@ int main(void)
     call_with_two_partitions(ready, sizeof ready, MANY, FEW);
     call_command("REWIND", NONE_AGAIN, MANY, rewinding, sizeof rewinding);
     call_command("LOCATE", NONE_AGAIN, MANY, locating, sizeof locating);
+    call_command("LOCATE (16)", NONE_AGAIN, MANY, locating_16, sizeof locating_16);
+    call_command("LOCATE (16) to file 625", WALKED_AGAIN, MANY, filing, sizeof filing);
+    call_command("SPACE (16) over 625 filemarks", WALKED_AGAIN, MANY, spacing, sizeof spacing);
     call_command("READ POSITION", SOME_AGAIN, MANY, position, sizeof position);
     call_command("READ", SOME_AGAIN, MANY, reading, sizeof reading);
     call_command("WRITE", SOME_AGAIN, MANY, writing, sizeof writing);

@@ -18,12 +18,12 @@ struct drive {
     uint8_t record[STORMTOGGLE_RECORD_LENGTH];
     struct partition tape[2];
     uint64_t answer; /* to the last call */
-    char asked[40];  /* by the last call */
+    char asked[48];  /* by the last call */
 };
 
 /* ---- the log */
 
-enum { ASKED_WIDTH = 32, ANSWER_WIDTH = 78 };
+enum { ASKED_WIDTH = 43, ANSWER_WIDTH = 78 };
 
 static inline void log_heading(void)
 {
@@ -101,22 +101,25 @@ static inline const uint8_t *view(struct drive *d, int partition, uint32_t objec
 
 enum {
     TEST_UNIT_READY = 0x00, REWIND = 0x01, REQUEST_SENSE = 0x03, READ = 0x08, WRITE = 0x0a, WRITE_FILEMARKS = 0x10,
-    SPACE = 0x11, MODE_SELECT = 0x15, LOAD_UNLOAD = 0x1b, LOCATE = 0x2b, READ_POSITION = 0x34
+    SPACE = 0x11, MODE_SELECT = 0x15, LOAD_UNLOAD = 0x1b, LOCATE = 0x2b, READ_POSITION = 0x34, SPACE_16 = 0x91,
+    LOCATE_16 = 0x92
 };
 
-/* Command blocks have six bytes, LOCATE's and READ POSITION's ten. */
-enum { SIX = 6, TEN = 10 };
+/* Command blocks have six bytes, LOCATE's and READ POSITION's ten; some come in sixteen as well. */
+enum { SIX = 6, TEN = 10, SIXTEEN = 16 };
 
 /* Byte 1 of a command block. */
 enum { FIXED = 0x01, CHANGE_PARTITION = 0x02, LONG_FORM = 0x06, PAGE_FORMAT = 0x10 };
 enum space_code { BLOCKS = 0, FILEMARKS = 1, TO_END_OF_DATA = 3 };
+enum destination { TO_OBJECT = 0, TO_FILE = 1, TO_END = 3, DESTINATION_SHIFT = 3 };
 
 /* MODE SELECT's list: the lengths of its two parts. */
 enum { HEADER = 4, DESCRIPTOR = 8 };
 
-#define BYTE(number, shift) ((uint8_t)((uint32_t)(number) >> (shift)))
+#define BYTE(number, shift) ((uint8_t)((uint64_t)(number) >> (shift)))
 #define THREE_BYTES(number) BYTE(number, 16), BYTE(number, 8), BYTE(number, 0)
 #define FOUR_BYTES(number) BYTE(number, 24), THREE_BYTES(number)
+#define EIGHT_BYTES(number) FOUR_BYTES((uint64_t)(number) >> 32), FOUR_BYTES(number)
 
 /* The bytes lent beside the command block; a command uses one direction or none. */
 struct data {
@@ -208,6 +211,27 @@ static inline void locate(struct drive *d, uint8_t partition, uint32_t object)
 {
     const uint8_t command[TEN] = {LOCATE, CHANGE_PARTITION, 0, FOUR_BYTES(object), 0, partition};
     ask(d, "LOCATE partition %u, object %u", partition, (unsigned)object);
+    carry_out(d, command, sizeof command, NO_DATA);
+}
+
+/* SPACE in sixteen bytes: the same but for a count of eight. */
+static inline void space_16(struct drive *d, enum space_code code, int64_t count)
+{
+    const uint8_t command[SIXTEEN] = {SPACE_16, (uint8_t)code, 0, 0, EIGHT_BYTES(count)};
+    ask(d, "SPACE (16) %s %lld", code == BLOCKS ? "blocks" : "filemarks", (long long)count);
+    carry_out(d, command, sizeof command, NO_DATA);
+}
+
+/* LOCATE in sixteen bytes: to an object; to a file, just after that many filemarks; or to end of data. */
+static inline void locate_16(struct drive *d, uint8_t partition, enum destination destination, uint64_t identifier)
+{
+    const uint8_t command[SIXTEEN] = {LOCATE_16, (uint8_t)(destination << DESTINATION_SHIFT | CHANGE_PARTITION), 0,
+                                      partition, EIGHT_BYTES(identifier)};
+    if (destination == TO_END)
+        ask(d, "LOCATE (16) partition %u, end of data", partition);
+    else
+        ask(d, "LOCATE (16) partition %u, %s %llu", partition, destination == TO_FILE ? "file" : "object",
+            (unsigned long long)identifier);
     carry_out(d, command, sizeof command, NO_DATA);
 }
 

@@ -67,7 +67,8 @@ static inline uint32_t condition_of(const uint8_t *sense)
     return CONDITION((uint32_t)sense[STORMTOGGLE_SENSE_KEY], code_of(sense));
 }
 
-/* The information is 32 bits in two's complement. Requests have 24 bits, so the sign is never in doubt. */
+/* The information is 32 bits in two's complement. A residue that they do not hold is not valid, and the information
+ * then 0: so the sign is never in doubt. */
 static inline long residue_of(const uint8_t *sense)
 {
     uint32_t information = number_at(sense + STORMTOGGLE_SENSE_INFORMATION);

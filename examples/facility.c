@@ -202,6 +202,34 @@ static void use_index(struct drive *d)
     expect_tile(d, block, 2, 2);
 }
 
+/* A backup program that positions in sixteen bytes finds a cycle by its number: it starts behind as many filemarks. No
+ * identifier is cut to 32 bits, and a residue that they do not hold is not told. */
+static void go_in_sixteen_bytes(struct drive *d)
+{
+    uint8_t tile[TILE];
+    puts("\nIn sixteen bytes: to a cycle by its file number, past the last one, and far back");
+    locate_16(d, TILES, TO_FILE, 2);
+    expect_good(d, TILES, 5);
+    read_block(d, tile, TILE);
+    expect_good(d, TILES, 6);
+    expect_tile(d, tile, 3, 1);
+    locate_16(d, TILES, TO_FILE, CYCLES);
+    expect_good(d, TILES, 9);
+    locate_16(d, TILES, TO_FILE, CYCLES + 1);
+    expect(d, END_OF_DATA, 0, TILES, 9);
+    locate_16(d, TILES, TO_OBJECT, 3 + (UINT64_C(1) << 32));
+    expect(d, END_OF_DATA, 0, TILES, 9);
+    space_16(d, BLOCKS, -2);
+    expect(d, FILEMARK_DETECTED, -2, TILES, 8);
+    space_16(d, FILEMARKS, -(INT64_C(1) << 40));
+    expect(d, BEGINNING_OF_PARTITION, 0, TILES, 0);
+    must_equal(d, "byte 0 of the sense", d->record[STORMTOGGLE_RECORD_SENSE], STORMTOGGLE_NOT_VALID);
+    locate_16(d, TILES, TO_END, 0);
+    expect_good(d, TILES, 9);
+    locate_16(d, TILES, TO_OBJECT, 4);
+    expect_good(d, TILES, 4);
+}
+
 /* The next tiles of the fourth cycle, as one WRITE sends them. */
 static void write_batch(struct drive *d, unsigned first)
 {
@@ -293,6 +321,7 @@ int main(int count, char **words)
     write_cycles(&d);
     go_back(&d);
     use_index(&d);
+    go_in_sixteen_bytes(&d);
     fill(&d);
     close_the_day(&d);
     for (int i = TILES; i <= INDEX; i++)

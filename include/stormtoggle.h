@@ -69,7 +69,8 @@ enum {
     STORMTOGGLE_SENSE_LENGTH = 18,
     STORMTOGGLE_SENSE_FIRST = 0,       /* 1 byte: F0h if the information is valid, else 70h */
     STORMTOGGLE_SENSE_KEY = 2,         /* 1 byte: FILEMARK, EOM and ILI in its high bits, the key in its low four */
-    STORMTOGGLE_SENSE_INFORMATION = 3, /* 4 bytes, big-endian: the residue in two's complement; 0 if not valid */
+    STORMTOGGLE_SENSE_INFORMATION = 3, /* 4 bytes, big-endian: the residue in two's complement; 0 if not valid, as where
+                                        * SPACE (16) has one that 32 signed bits do not hold */
     STORMTOGGLE_SENSE_REST = 7,        /* 1 byte: 0Ah, the number of bytes behind it */
     STORMTOGGLE_SENSE_ASC = 12,        /* 1 byte */
     STORMTOGGLE_SENSE_ASCQ = 13        /* 1 byte */

@@ -1,11 +1,11 @@
--- Document 01's worked SPACEs and the traps beside them, by computing the movement.
+-- Document 01's worked SPACEs, LOCATE by file (Q-1), and the traps beside them, by computing the movement.
 -- Assumes nothing.
 use Prim.Native.Nat.{ℕ, _-_, _^_}
 use mathlib.Core.Path.{_≡_, refl}
 use mathlib.Core.List.{List, [], _∷_}
 use lib.IntN.{ℤ, pos, negsuc}
 use Rattle.objects.specs.Object.{Object, filemark, block}
-use Rattle.objects.specs.Movement.{Code, blocks, filemarks, Why, done, marked, edge, walk, before, ahead, astern, space, residue}
+use Rattle.objects.specs.Movement.{Code, blocks, filemarks, Why, done, marked, edge, walk, before, ahead, astern, space, residue, toFile}
 
 -- SPACE over c by the count k from position p of xs ends at q, for w, with the residue r
 abbrev pub Ends : List Object → Code → ℤ → ℕ → ℕ → Why → ℤ → Type 0
@@ -50,3 +50,12 @@ filemarks-on-edge = (refl, refl, refl)
 pub blocks-on-largest : Ends objectsOfE blocks (pos (2 ^ 63 - 1)) 0 2 marked (pos (2 ^ 63 - 2))
 unfolding space walk before ahead astern residue
 blocks-on-largest = (refl, refl, refl)
+
+-- LOCATE to file f from position p of xs ends at q, for w
+abbrev Lands : List Object → ℕ → ℕ → ℕ → Why → Type 0
+Lands xs f p q w = ((toFile p f xs) .to ≡ q) × ((toFile p f xs) .why ≡ w)
+
+-- file 0 is the beginning, file 1 lies just after the first filemark, the last file may be empty, and past it lies end of data
+pub files-of-bbfbf : Lands bbfbf 0 4 0 done × Lands bbfbf 1 4 3 done × Lands bbfbf 2 0 5 done × Lands bbfbf 3 0 5 edge
+unfolding toFile walk
+files-of-bbfbf = ((refl, refl), (refl, refl), (refl, refl), (refl, refl))

@@ -1,0 +1,296 @@
+-- LOCATE (16) to file f lands where REWIND and SPACE over f filemarks land, when both are GOOD; and after that REWIND the one is GOOD exactly if the other is.
+-- Assumes nothing.
+use Prim.Native.Nat.{ℕ, zero, suc, zero-le}
+use native.Mathlib.Nat.{zero-add}
+use native.Mathlib.Omega.{arith}
+use mathlib.Core.Path.{_≡_, refl, sym, ap, ap₂, _∙_}
+use mathlib.Core.Logic.{_⊎_, inl, inr}
+use mathlib.Core.Bool.{Bool, true, false, cond, not, _&&_}
+use mathlib.Core.Option.{Option, none, some}
+use mathlib.Core.List.{List, [], _∷_, _++_}
+use borrow.Author.Tests.{eq-eqb, ne-eqb, eqb-true, eqb-false, le-ltb, not-false}
+use lib.Dec.{eqb, ltb}
+use lib.IntN.{ℤ, pos}
+use lib.ListN.{length}
+use Rattle.words.specs.Words.{be, bytes, over, zeros}
+use Rattle.words.specs.Signed.{signed}
+use Rattle.words.proofs.Laws.{over-nil}
+use Rattle.answers.specs.Answers.{refused, answered, done, first}
+use Rattle.answers.proofs.First.{not-both}
+use Rattle.objects.specs.Object.{Object, filemark, block}
+use Rattle.objects.specs.Movement as M
+use Rattle.objects.specs.Transfer.{fitting, putFrom}
+use Rattle.image.specs.Image.{count, flags, directory, size, entry, topBit, low31, endAt, follows, ordered, rightLength, sound, objectAt, upto, objects}
+use Rattle.image.specs.Example.{E}
+use Rattle.changes.specs.Changes.{occurs}
+use Rattle.sense.specs.declared.Sense.{Sense}
+use Rattle.sense.specs.Sense.{senseBytes, emptySense}
+use Rattle.record.specs.declared.drive.Drive.{Drive}
+use Rattle.record.specs.Record.{noAttention, decodeOf, encodeOf, attentionKnown, placed, wellFormed, wellRecord, withSense}
+use Rattle.codes.specs.declared.operation.Operation.{Operation}
+use Rattle.codes.specs.declared.operation.Operation.the-variants.{Rewind, Space, Space16, Locate16}
+use Rattle.codes.specs.Codes.{codeOf, tooShort, operationOf, inMasks, masksHold}
+use Rattle.codes.specs.Six.{six}
+use Rattle.codes.specs.Sixteen.{sixteen}
+use Rattle.codes.specs.Fields.{spaceCodeOf, spaceCountOf, spaceCount16Of, changesPartition, destinationOf, identifierOf}
+use Rattle.commands.specs.Kinds.{writes}
+use Rattle.commands.specs.Act.{Seen, Deed, at, offered, goesDown, spaceTells, overFilemarks, movement, spacing, targetOf, destination16, locateTells, locating, act, eventsOf}
+use Rattle.commands.specs.Tests.{tests, fieldError, taken, replyLength, needed}
+use Rattle.commands.specs.Step.{checkAnswer, statusOf, keptOf, acted, unless, step}
+use Rattle.commands.specs.Call.{Lent, lent, Result, result, partition, looksAt, seenOf, nothing, seen, inserted, laidOut, applied, stepOf, called, written, commandCall, commandTests}
+use Rattle.commands.proofs.Ends.{call-acts}
+use Rattle.commands.proofs.Faultless.{Well, inside, back, no-fault, empty-whole}
+use Rattle.commands.proofs.Passed.{all-false}
+use Rattle.history.specs.History.{Cartridge, cartridge, isGood}
+use Rattle.history.specs.Demand3.{Mounted}
+use Rattle.history.proofs.Ended.{Finished, by-number, by-sense, by-act, ended}
+use Rattle.history.proofs.Acted.{idle}
+use Rattle.history.proofs.Moved.{moved-well}
+use Rattle.alike.specs.Alike.{under, ToFile, OverMarks, Rewinds}
+
+-- file f begins where SPACE over f filemarks from the beginning ends, and both end for the same reason
+pub file-as-marks : (f p : ℕ) (xs : List Object) → (M.toFile p f xs .to ≡ M.space M.filemarks (pos f) 0 xs .to) × (M.toFile p f xs .why ≡ M.space M.filemarks (pos f) 0 xs .why)
+unfolding M.toFile M.space M.ahead
+file-as-marks f p xs = (sym (zero-add (M.walk M.filemarks f xs .crossed)), refl)
+
+-- ---- a command that moves the drive to position n of its partition, tells t, and does no more
+
+abbrev moves : Drive → ℕ → Option Sense → Deed
+moves d n t = record { drive = at d n; tells = t; received = []; carried = 0 }
+
+record Goes (rec : List ℕ) (x : Lent) (n : ℕ) (t : Option Sense) : Type 0 where
+  o : Operation
+  is : operationOf (codeOf (x .cmd)) ≡ o
+  quiet : writes o ≡ false
+  does : act o (decodeOf rec) (x .cmd) (x .sent) (seen o (decodeOf rec) x) ≡ moves (decodeOf rec) n t
+
+-- what it leaves, and what if it tells nothing
+abbrev left : Drive → ℕ → Option Sense → Lent → Result
+left d n t x = result (answered (statusOf t) 0) (encodeOf (withSense (at d n) (keptOf t))) x
+
+abbrev landed : Drive → ℕ → Lent → Result
+landed d n x = result done (encodeOf (withSense (at d n) emptySense)) x
+
+module _ (rec cmd p0 p1 sent received : List ℕ) where
+  abbrev d : Drive
+  d = decodeOf rec
+
+  abbrev x : Lent
+  x = lent cmd p0 p1 sent received
+
+  goes-left : (n : ℕ) (t : Option Sense) → Goes rec x n t → first (commandTests rec x) ≡ none → commandCall rec x ≡ left d n t x
+  unfolding applied acted
+  goes-left n t w h =
+      call-acts rec x h
+      ∙ ap (λ (p : Operation). written rec (applied (acted p d cmd sent (seen p d x)) (looksAt p d cmd) x)) (w .is)
+      ∙ ap (λ (c : Cartridge). by (act (w .o) d cmd sent (seen (w .o) d x)) (c .part0) (c .part1)) (idle rec x (w .o) (w .quiet))
+      ∙ ap (λ (e : Deed). by e p0 p1) (w .does)
+      ∙ ap (λ (l : List ℕ). result (answered (statusOf t) 0) (encodeOf (withSense (at d n) (keptOf t))) (lent cmd p0 p1 sent l)) (over-nil received 0)
+    where
+      by : Deed → List ℕ → List ℕ → Result
+      by e q0 q1 = result (answered (statusOf (e .tells)) (e .carried)) (encodeOf (withSense (e .drive) (keptOf (e .tells)))) (lent cmd q0 q1 sent (over received 0 (e .received)))
+
+  -- GOOD: no test stopped it, and it tells nothing
+  abbrev Good : Type 0
+  Good = isGood (commandCall rec x .answer) ≡ true
+
+  passed : Good → (first (commandTests rec x) ≡ none) × Well d p0 p1
+  passed g = go (ended rec cmd p0 p1 sent received)
+    where
+      not-so : (r : Result) → commandCall rec x ≡ r → isGood (r .answer) ≡ false → (first (commandTests rec x) ≡ none) × Well d p0 p1
+      not-so r e h = absurd (not-both (sym g ∙ ap (λ (y : Result). isGood (y .answer)) e ∙ h))
+
+      go : Finished rec cmd p0 p1 sent received → (first (commandTests rec x) ≡ none) × Well d p0 p1
+      go (by-number n h e q) = not-so (result (refused n) rec x) q (rw (ne-eqb n 0 (λ z. omega arith)) refl)
+      go (by-sense s e f b w z l q) = not-so (result checkAnswer (encodeOf (withSense f b)) x) q refl
+      go (by-act e w t q) = (e, w)
+
+  lands : (n : ℕ) (t : Option Sense) → Goes rec x n t → Good → commandCall rec x ≡ landed d n x
+  lands n t w g = go t (goes-left n t w (passed g .0))
+    where
+      go : (t : Option Sense) → commandCall rec x ≡ left d n t x → commandCall rec x ≡ landed d n x
+      go none q = unfold statusOf keptOf in q
+      go (some s) q = unfold statusOf in absurd (not-both (sym g ∙ ap (λ (y : Result). isGood (y .answer)) q))
+
+-- ---- the three commands
+
+-- what a command sees of the current partition; where f filemarks of it end, and why; what SPACE over them from the beginning tells
+abbrev current : Drive → List ℕ → List ℕ → Seen
+current d p0 p1 = cond (ltb (d .current) (d .partitions)) (seenOf (partition (d .current) p0 p1)) nothing
+
+abbrev marks : ℕ → Seen → M.Walk
+marks f v = M.walk M.filemarks f (v .objects)
+
+abbrev tellsOver : ℕ → Seen → Option Sense
+tellsOver f v = spaceTells v (pos f) (M.space M.filemarks (pos f) 0 (v .objects))
+
+-- SPACE of either length, by f
+abbrev Either : ℕ → List ℕ → Type 0
+Either f cmd = ((operationOf (codeOf cmd) ≡ Space) × (spaceCountOf cmd ≡ pos f)) ⊎ ((operationOf (codeOf cmd) ≡ Space16) × (spaceCount16Of cmd ≡ pos f))
+
+module _ (f : ℕ) (rec cmd p0 p1 sent received : List ℕ) where
+  abbrev from : Drive
+  from = decodeOf rec
+
+  abbrev v : Seen
+  v = current from p0 p1
+
+  located-goes : ToFile f cmd → Goes rec (lent cmd p0 p1 sent received) (marks f v .crossed) (locateTells v (marks f v .why))
+  unfolding act locating destination16 M.locate M.toFile seen looksAt targetOf
+  located-goes t = record { o = Locate16; is = t .is; quiet = refl; does = rw (t .stays, t .by-file, t .identifier) refl }
+
+  over-marks : from .position ≡ 0 → spacing from overFilemarks (pos f) v ≡ moves from (marks f v .crossed) (tellsOver f v)
+  unfolding spacing movement M.space M.ahead
+  over-marks z = rw (z, zero-add (marks f v .crossed)) refl
+
+  spaced-goes : OverMarks f cmd → from .position ≡ 0 → Goes rec (lent cmd p0 p1 sent received) (marks f v .crossed) (tellsOver f v)
+  unfolding act seen looksAt
+  spaced-goes m z = go (m .is)
+    where
+      go : Either f cmd → Goes rec (lent cmd p0 p1 sent received) (marks f v .crossed) (tellsOver f v)
+      go (inl h) = record { o = Space; is = h .0; quiet = refl; does = ap₂ (λ (c : ℕ) (k : ℤ). spacing from c k v) (m .code) (h .1) ∙ over-marks z }
+      go (inr h) = record { o = Space16; is = h .0; quiet = refl; does = ap₂ (λ (c : ℕ) (k : ℤ). spacing from c k v) (m .code) (h .1) ∙ over-marks z }
+
+-- ---- SPACE after REWIND
+
+-- the record of the drive at the beginning
+abbrev beginning : List ℕ → List ℕ
+beginning rec = encodeOf (withSense (at (decodeOf rec) 0) emptySense)
+
+module _ (rec rewound p0 p1 sent received : List ℕ) (r : Rewinds rewound) (g : isGood (commandCall rec (lent rewound p0 p1 sent received) .answer) ≡ true) where
+  begins : decodeOf (beginning rec) ≡ withSense (at (decodeOf rec) 0) emptySense
+  begins = back (at (decodeOf rec) 0) emptySense (omega arith) (passed rec rewound p0 p1 sent received g .1 .small) empty-whole
+
+  -- a command on what a REWIND left that is GOOD is one on that record and the same partitions
+  rewinds : (cmd : List ℕ) → let b = commandCall rec (lent rewound p0 p1 sent received) in commandCall (b .rec) (lent cmd (b .lent .part0) (b .lent .part1) sent received) ≡ commandCall (beginning rec) (lent cmd p0 p1 sent received)
+  unfolding act
+  rewinds cmd = ap (λ (b : Result). commandCall (b .rec) (lent cmd (b .lent .part0) (b .lent .part1) sent received)) (lands rec rewound p0 p1 sent received 0 none (record { o = Rewind; is = r; quiet = refl; does = refl }) g)
+
+  then-goes : (f : ℕ) (spaced : List ℕ) → OverMarks f spaced → let v = current (decodeOf (beginning rec)) p0 p1 in Goes (beginning rec) (lent spaced p0 p1 sent received) (marks f v .crossed) (tellsOver f v)
+  unfolding withSense
+  then-goes f spaced m = spaced-goes f (beginning rec) spaced p0 p1 sent received m (ap (λ (e : Drive). e .position) begins)
+
+  then-lands : (f : ℕ) (spaced : List ℕ) → OverMarks f spaced → isGood (commandCall (beginning rec) (lent spaced p0 p1 sent received) .answer) ≡ true
+      → commandCall (beginning rec) (lent spaced p0 p1 sent received) ≡ landed (decodeOf rec) (marks f (current (decodeOf rec) p0 p1) .crossed) (lent spaced p0 p1 sent received)
+  unfolding withSense
+  then-lands f spaced m h =
+      lands (beginning rec) spaced p0 p1 sent received _ _ (then-goes f spaced m) h
+      ∙ ap (λ (e : Drive). landed e (marks f (current e p0 p1) .crossed) (lent spaced p0 p1 sent received)) begins
+
+-- LOCATE (16) to file f and REWIND and SPACE over f filemarks, all GOOD, leave the same answer, record, partitions and receiving buffer
+pub file-reached : (f : ℕ) (rec located rewound spaced p0 p1 sent received : List ℕ) → ToFile f located → Rewinds rewound → OverMarks f spaced
+    → let a = commandCall rec (lent located p0 p1 sent received) in
+    let b = commandCall rec (lent rewound p0 p1 sent received) in
+    let c = commandCall (b .rec) (lent spaced (b .lent .part0) (b .lent .part1) sent received) in
+    isGood (a .answer) ≡ true → isGood (b .answer) ≡ true → isGood (c .answer) ≡ true
+    → (a .answer ≡ c .answer) × (a .rec ≡ c .rec) × (a .lent .part0 ≡ c .lent .part0) × (a .lent .part1 ≡ c .lent .part1) × (a .lent .received ≡ c .lent .received)
+file-reached f rec located rewound spaced p0 p1 sent received t r m ga gb gc =
+    let e = rewinds rec rewound p0 p1 sent received r gb spaced in
+    let qa = lands rec located p0 p1 sent received _ _ (located-goes f rec located p0 p1 sent received t) ga in
+    let qc = e ∙ then-lands rec rewound p0 p1 sent received r gb f spaced m (sym (ap (λ (y : Result). isGood (y .answer)) e) ∙ gc) in
+    let q = qa ∙ sym (ap (under located) qc) in
+    (ap (λ (y : Result). y .answer) q, ap (λ (y : Result). y .rec) q, ap (λ (y : Result). y .lent .part0) q, ap (λ (y : Result). y .lent .part1) q, ap (λ (y : Result). y .lent .received) q)
+
+-- ---- GOOD, of the one exactly if of the other
+
+-- no filemark is crossed uncounted on the way over filemarks
+never-marked : (f : ℕ) (xs : List Object) → M.walk M.filemarks f xs .why ≡ M.marked → ⊥
+unfolding M.walk
+never-marked zero xs e = let z : _≡_ {A = ℕ} 0 1 = cc in omega arith
+never-marked (suc f) [] e = let z : _≡_ {A = ℕ} 0 1 = cc in omega arith
+never-marked (suc f) (filemark ∷ xs) e = never-marked f xs e
+never-marked (suc f) (block bs ∷ xs) e = never-marked (suc f) xs e
+
+-- so LOCATE and SPACE both tell something or neither does
+tell-alike : (f : ℕ) (v : Seen) → statusOf (locateTells v (marks f v .why)) ≡ statusOf (tellsOver f v)
+unfolding M.space M.ahead
+tell-alike f v = go (marks f v .why) refl
+  where
+    go : (w : M.Why) → marks f v .why ≡ w → statusOf (locateTells v w) ≡ statusOf (tellsOver f v)
+    go M.done e = unfold locateTells spaceTells in rw e refl
+    go M.marked e = absurd (never-marked f (v .objects) e)
+    go M.edge e = unfold locateTells spaceTells statusOf in rw e refl
+
+module _ (rec cmd p0 p1 sent received : List ℕ) (mounted : Mounted rec (cartridge p0 p1)) (whole : tooShort cmd ≡ false) (within : masksHold cmd ≡ true) where
+  calm : eqb (decodeOf rec .attention) noAttention ≡ true
+  calm = eq-eqb (decodeOf rec .attention) noAttention (mounted .no-attention)
+
+  has : eqb (decodeOf rec .loaded) 0 ≡ false
+  has = ne-eqb (decodeOf rec .loaded) 0 (λ z. omega (arith, mounted .loaded))
+
+  located-passes : (f : ℕ) → ToFile f cmd → first (commandTests rec (lent cmd p0 p1 sent received)) ≡ none
+  unfolding first commandTests tests fieldError taken needed replyLength
+  located-passes f t = rw (t .is, whole, mounted .no-fault, within, t .by-file, t .stays, calm, has, le-ltb (length sent) 0 zero-le, le-ltb (length received) 0 zero-le) refl
+
+  spaced-passes : (f : ℕ) → OverMarks f cmd → first (commandTests rec (lent cmd p0 p1 sent received)) ≡ none
+  unfolding first commandTests tests fieldError taken needed replyLength
+  spaced-passes f m = go (m .is)
+    where
+      go : Either f cmd → first (commandTests rec (lent cmd p0 p1 sent received)) ≡ none
+      go (inl h) = rw (h .0, whole, mounted .no-fault, within, m .code, calm, has, le-ltb (length sent) 0 zero-le, le-ltb (length received) 0 zero-le) refl
+      go (inr h) = rw (h .0, whole, mounted .no-fault, within, m .code, calm, has, le-ltb (length sent) 0 zero-le, le-ltb (length received) 0 zero-le) refl
+
+-- a REWIND that is GOOD had a mounted cartridge and no attention before it, and leaves them
+module _ (rec rewound p0 p1 sent received : List ℕ) (r : Rewinds rewound) (g : isGood (commandCall rec (lent rewound p0 p1 sent received) .answer) ≡ true) where
+  was-mounted : Mounted rec (cartridge p0 p1)
+  unfolding commandTests tests
+  was-mounted =
+      let p = passed rec rewound p0 p1 sent received g in
+      let t = rw r at (all-false (commandTests rec (lent rewound p0 p1 sent received)) (p .0)) in
+      record {
+        no-fault = not-false _ (t .1 .0);
+        loaded = inside (decodeOf rec) p0 p1 (p .1 .cart) (eqb-false (decodeOf rec .loaded) 0 (t .1 .1 .1 .1 .1 .1 .0)) .is;
+        no-attention = eqb-true (decodeOf rec .attention) noAttention (go (eqb (decodeOf rec .attention) noAttention) (t .1 .1 .0));
+      }
+    where
+      go : (b : Bool) → not b && true ≡ false → b ≡ true
+      go true e = refl
+      go false e = sym e
+
+  stays-mounted : Mounted (beginning rec) (cartridge p0 p1)
+  unfolding withSense
+  stays-mounted =
+      let d = decodeOf rec in
+      let e = begins rec rewound p0 p1 sent received r g in
+      let w = moved-well d p0 p1 0 (passed rec rewound p0 p1 sent received g .1) (λ z. omega (arith, was-mounted .loaded)) zero-le in
+      record {
+        no-fault = no-fault (at d 0) emptySense p0 p1 w empty-whole;
+        loaded = ap (λ (y : Drive). y .loaded) e ∙ was-mounted .loaded;
+        no-attention = ap (λ (y : Drive). y .attention) e ∙ was-mounted .no-attention;
+      }
+
+-- after a REWIND that is GOOD, LOCATE (16) to file f and SPACE over f filemarks, both whole and within their masks, are both GOOD or neither
+pub file-good : (f : ℕ) (rec located rewound spaced p0 p1 sent received : List ℕ) → ToFile f located → Rewinds rewound → OverMarks f spaced
+    → tooShort located ≡ false → masksHold located ≡ true → tooShort spaced ≡ false → masksHold spaced ≡ true
+    → let a = commandCall rec (lent located p0 p1 sent received) in
+    let b = commandCall rec (lent rewound p0 p1 sent received) in
+    let c = commandCall (b .rec) (lent spaced (b .lent .part0) (b .lent .part1) sent received) in
+    isGood (b .answer) ≡ true → isGood (a .answer) ≡ isGood (c .answer)
+unfolding withSense
+file-good f rec located rewound spaced p0 p1 sent received t r m la ka lc kc g =
+    let good : Result → Bool = λ (y : Result). isGood (y .answer) in
+    let told : Option Sense → Bool = λ (s : Option Sense). isGood (answered (statusOf s) 0) in
+    let qa = goes-left rec located p0 p1 sent received _ _ (located-goes f rec located p0 p1 sent received t) (located-passes rec located p0 p1 sent received (was-mounted rec rewound p0 p1 sent received r g) la ka f t) in
+    let qc = goes-left (beginning rec) spaced p0 p1 sent received _ _ (then-goes rec rewound p0 p1 sent received r g f spaced m) (spaced-passes (beginning rec) spaced p0 p1 sent received (stays-mounted rec rewound p0 p1 sent received r g) lc kc f m) in
+    ap good qa
+    ∙ ap (λ (n : ℕ). isGood (answered n 0)) (tell-alike f (current (decodeOf rec) p0 p1))
+    ∙ sym (ap (λ (e : Drive). told (tellsOver f (current e p0 p1))) (begins rec rewound p0 p1 sent received r g))
+    ∙ sym (ap good (rewinds rec rewound p0 p1 sent received r g spaced ∙ qc))
+
+-- ---- that it can be so: file 1 of 01's example E, with one partition mounted and no attention
+
+abbrev exampleRecord : List ℕ
+exampleRecord = (1 ∷ 1 ∷ 0 ∷ 0 ∷ []) ++ bytes 4 1 ++ bytes 4 0 ++ (0x70 ∷ 0 ∷ 0 ∷ 0 ∷ 0 ∷ 0 ∷ 0 ∷ 0x0A ∷ zeros 10)
+
+-- from position 1, each of the three is GOOD
+pub file-met : let located = sixteen 0x92 0x08 0 1 in
+    let rewound = six 0x01 0 0 in
+    let spaced = six 0x11 1 1 in
+    let a = commandCall exampleRecord (lent located E [] [] []) in
+    let b = commandCall exampleRecord (lent rewound E [] [] []) in
+    let c = commandCall (b .rec) (lent spaced (b .lent .part0) (b .lent .part1) [] []) in
+    ToFile 1 located × Rewinds rewound × OverMarks 1 spaced × (isGood (a .answer) ≡ true) × (isGood (b .answer) ≡ true) × (isGood (c .answer) ≡ true)
+unfolding E be bytes signed M.space M.toFile M.locate fitting putFrom count directory size entry topBit low31 endAt follows ordered rightLength sound flags objectAt upto objects occurs
+    senseBytes emptySense decodeOf encodeOf attentionKnown placed wellFormed wellRecord withSense tooShort inMasks masksHold spaceCodeOf spaceCountOf changesPartition destinationOf identifierOf first
+    offered goesDown spaceTells movement spacing targetOf destination16 locateTells locating act eventsOf fieldError taken replyLength needed tests statusOf keptOf acted unless step looksAt seenOf seen inserted laidOut applied stepOf called commandCall
+file-met = (record { is = refl; stays = refl; by-file = refl; identifier = refl }, refl, record { is = inl (refl, refl); code = refl }, refl, refl, refl)
