@@ -2,7 +2,7 @@
 -- Assumes nothing.
 use mathlib.Core.Path.{refl}
 use Rattle.words.specs.Words.{be, bytes, over}
-use Rattle.words.specs.Signed.{signed, wrapped, fits}
+use Rattle.words.specs.Signed.{signed, wrapped, fits32}
 use Rattle.objects.specs.Movement as M
 use Rattle.objects.specs.Transfer.{fitting, putFrom}
 use Rattle.image.specs.Image.{count, flags, protected, directory, size, entry, topBit, low31, endAt, follows, ordered, rightLength, sound, objectAt, upto, objects}
@@ -23,7 +23,7 @@ use Rattle.edges.specs.Traps.{Traps, guarded}
 use Rattle.edges.specs.Sixteen.{sixteens, files}
 
 pub in-sixteen : Traps sixteens
-unfolding Traps sixteens files full guarded E be bytes over signed wrapped fits M.walk M.before M.ahead M.astern M.space M.residue M.toEndOfData M.toObject M.toFile M.locate
+unfolding Traps sixteens files full guarded E be bytes over signed wrapped fits32 M.walk M.before M.ahead M.astern M.space M.residue M.toEndOfData M.toObject M.toFile M.locate
     fitting putFrom count flags protected directory size entry topBit low31 endAt follows ordered rightLength sound objectAt upto objects occurs protect reflag
     senseBytes reports told emptySense attentionSense decodeOf encodeOf attentionKnown emptyHanded placed wellFormed wellRecord withSense tooShort inMasks masksHold
     transferOf spaceCodeOf spaceCount16Of longOf changesPartition destinationOf partition16Of identifierOf allocationOf first

@@ -2,7 +2,7 @@
 -- Assumes nothing.
 use mathlib.Core.Path.{refl}
 use Rattle.words.specs.Words.{be, bytes, over}
-use Rattle.words.specs.Signed.{signed, wrapped, fits}
+use Rattle.words.specs.Signed.{signed, wrapped, fits32}
 use Rattle.objects.specs.Object.{bytesIn, filemarksIn}
 use Rattle.objects.specs.Movement as M
 use Rattle.image.specs.Image.{count, flags, protected, directory, size, entry, topBit, low31, endAt, follows, ordered, rightLength, sound, objectAt, upto, objects}
@@ -26,7 +26,7 @@ use Rattle.edges.specs.Traps.{Traps, traps, guarded}
 pub edges : Edges cases
 unfolding Edges cases bare64 full ten tenAnd7 tenAnd8 E be bytes over signed wrapped bytesIn filemarksIn M.walk M.before M.ahead M.astern M.space M.residue M.toEndOfData M.toObject M.locate
     count flags protected directory size entry topBit low31 endAt follows ordered rightLength sound objectAt upto objects retitle entryOf enter occur occurs cleared blank
-    fits senseBytes reports told emptySense attentionSense decodeOf encodeOf attentionKnown emptyHanded placed wellFormed wellRecord withSense tooShort inMasks masksHold
+    fits32 senseBytes reports told emptySense attentionSense decodeOf encodeOf attentionKnown emptyHanded placed wellFormed wellRecord withSense tooShort inMasks masksHold
     fixedOf siliOf transferOf spaceCodeOf spaceCountOf longOf changesPartition objectOf partitionOf loadOf formOf dbdOf pageOf pfOf allocationOf
     first runOf blocksOf marksOf fitting putFrom hidden readVariable runTells reading offered goesDown wrote writing marking spaceTells movement spacing targetOf locateTells locating selecting replyOf act eventsOf
     bytesAsked fieldError taken replyLength needed tests statusOf keptOf stopped acted unless step looksAt seenOf seen inserted laidOut applied stepOf called commandCall
@@ -36,7 +36,7 @@ edges = (refl, (refl, (refl, (refl, (refl, (refl, (refl, (refl, (refl, (refl, (r
 pub trapped : Traps traps
 unfolding Traps traps full guarded ten E be bytes over signed wrapped bytesIn filemarksIn M.walk M.before M.ahead M.astern M.space M.residue M.toEndOfData M.toObject M.locate
     count flags protected directory size entry topBit low31 endAt follows ordered rightLength sound objectAt upto objects retitle entryOf enter occur occurs cleared blank
-    fits senseBytes reports told emptySense attentionSense decodeOf encodeOf attentionKnown emptyHanded placed wellFormed wellRecord withSense tooShort inMasks masksHold
+    fits32 senseBytes reports told emptySense attentionSense decodeOf encodeOf attentionKnown emptyHanded placed wellFormed wellRecord withSense tooShort inMasks masksHold
     fixedOf siliOf transferOf spaceCodeOf spaceCountOf longOf changesPartition objectOf partitionOf loadOf formOf dbdOf pageOf pfOf allocationOf
     first runOf blocksOf marksOf fitting putFrom hidden readVariable runTells reading offered goesDown wrote writing marking spaceTells movement spacing targetOf locateTells locating selecting replyOf act eventsOf
     bytesAsked fieldError taken replyLength needed tests statusOf keptOf stopped acted unless step looksAt seenOf seen inserted laidOut applied stepOf called commandCall protect reflag blockLimits modeData listLengthKnown headerRight descriptorRight listRight shortPosition longPosition unloaded loadedAnew

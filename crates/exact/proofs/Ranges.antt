@@ -13,7 +13,7 @@ use lib.Dec.{eqb, ltb}
 use lib.IntN.{ℤ, pos, negsuc, negℤ, subℕ}
 use lib.ListN.{length, take, drop, getD, getElem?}
 use Rattle.words.specs.Words.{be}
-use Rattle.words.specs.Signed.{signed, wrapped, fits}
+use Rattle.words.specs.Signed.{signed, wrapped, fits32}
 use Rattle.words.proofs.Wraps.{subℕ-cases, signed-low, signed-high}
 use Rattle.answers.specs.Answers.{checkCondition}
 use Rattle.objects.specs.Object.{Object, filemark, block, dataOf, bytesIn}
@@ -57,8 +57,8 @@ counting o c = go (one-test o Read (Write ∷ WriteFilemarks ∷ Space ∷ Space
 
 -- ---- a residue in 32 bits, and back
 
-pub read-back : (z : ℤ) → fits z ≡ true → signed (2 ^ 31) (wrapped z) ≡ z
-unfolding wrapped fits
+pub read-back : (z : ℤ) → fits32 z ≡ true → signed (2 ^ 31) (wrapped z) ≡ z
+unfolding wrapped fits32
 read-back (pos n) f =
     let h = ltb-true n (2 ^ 31) f in
     let e : n % 2 ^ 32 ≡ n = omega arith in
@@ -68,18 +68,18 @@ read-back (negsuc n) f =
     let e : 2 ^ 31 + 2 ^ 31 - suc (2 ^ 32 - suc (n % 2 ^ 32)) ≡ n = omega arith in
     signed-high (2 ^ 31) (2 ^ 32 - suc (n % 2 ^ 32)) (omega arith) ∙ ap negsuc e
 
-above-fits : (n : ℕ) → n < 2 ^ 31 → fits (pos n) ≡ true
-unfolding fits
+above-fits : (n : ℕ) → n < 2 ^ 31 → fits32 (pos n) ≡ true
+unfolding fits32
 above-fits n h = lt-ltb n (2 ^ 31) h
 
-below-fits : (n : ℕ) → n < 2 ^ 31 → fits (negsuc n) ≡ true
-unfolding fits
+below-fits : (n : ℕ) → n < 2 ^ 31 → fits32 (negsuc n) ≡ true
+unfolding fits32
 below-fits n h = lt-ltb n (2 ^ 31) h
 
-difference-fits : (a b : ℕ) → a < 2 ^ 31 → b ≤ 2 ^ 31 → fits (subℕ a b) ≡ true
-difference-fits a b h k = subℕ-cases (λ z. fits z ≡ true) a b (λ l. below-fits (b - suc a) (omega arith)) (λ l. above-fits (a - b) (omega arith))
+difference-fits : (a b : ℕ) → a < 2 ^ 31 → b ≤ 2 ^ 31 → fits32 (subℕ a b) ≡ true
+difference-fits a b h k = subℕ-cases (λ z. fits32 z ≡ true) a b (λ l. below-fits (b - suc a) (omega arith)) (λ l. above-fits (a - b) (omega arith))
 
-opposite-fits : (n : ℕ) → n ≤ 2 ^ 31 → fits (negℤ (pos n)) ≡ true
+opposite-fits : (n : ℕ) → n ≤ 2 ^ 31 → fits32 (negℤ (pos n)) ≡ true
 opposite-fits zero h = above-fits 0 (omega arith)
 opposite-fits (suc n) h = below-fits n h
 
@@ -147,48 +147,48 @@ module _ (d : Drive) (cmd sent : List ℕ) (v : Seen) where
   marks-offered = length-marks (transferOf cmd)
 
   module _ (n : transferOf cmd < 2 ^ 24) where
-    request-fits : fits (pos (transferOf cmd)) ≡ true
+    request-fits : fits32 (pos (transferOf cmd)) ≡ true
     request-fits = above-fits (transferOf cmd) (omega arith)
 
-    pub read-fits : bytesIn (v .objects) < 2 ^ 31 → fits (readResidue d cmd v) ≡ true
+    pub read-fits : bytesIn (v .objects) < 2 ^ 31 → fits32 (readResidue d cmd v) ≡ true
     read-fits h = go (fixedOf cmd) (getElem? (v .objects) (d .position)) refl
       where
-        go : (f : Bool) (x : Option Object) → getElem? (v .objects) (d .position) ≡ x → fits (cond f (subℕ (transferOf cmd) (fixedRun d cmd v .blocks)) (leftOfOne (transferOf cmd) x)) ≡ true
+        go : (f : Bool) (x : Option Object) → getElem? (v .objects) (d .position) ≡ x → fits32 (cond f (subℕ (transferOf cmd) (fixedRun d cmd v .blocks)) (leftOfOne (transferOf cmd) x)) ≡ true
         go true x e = difference-fits (transferOf cmd) (fixedRun d cmd v .blocks) (omega arith) (omega (arith, n, run-most (d .«block_length») (transferOf cmd) (drop (d .position) (v .objects))))
         go false none e = request-fits
         go false (some filemark) e = request-fits
         go false (some (block bs)) e = difference-fits (transferOf cmd) (length bs) (omega arith) (omega (arith, h, bytes-at (v .objects) (d .position) bs e))
 
-    pub write-fits : fits (writeResidue d cmd sent v) ≡ true
+    pub write-fits : fits32 (writeResidue d cmd sent v) ≡ true
     write-fits = go (fixedOf cmd) (eqb (length (goesDown Write d cmd sent v)) 1) refl
       where
-        go : (f t : Bool) → fixedOf cmd ≡ f → fits (cond f (subℕ (transferOf cmd) (length (goesDown Write d cmd sent v))) (cond t (pos 0) (pos (transferOf cmd)))) ≡ true
+        go : (f t : Bool) → fixedOf cmd ≡ f → fits32 (cond f (subℕ (transferOf cmd) (length (goesDown Write d cmd sent v))) (cond t (pos 0) (pos (transferOf cmd)))) ≡ true
         go true t e = difference-fits (transferOf cmd) (length (goesDown Write d cmd sent v)) (omega arith) (omega (arith, n, down-most Write, fixed-offered e))
         go false true e = above-fits 0 (omega arith)
         go false false e = request-fits
 
-    pub marks-fit : fits (marksResidue d cmd sent v) ≡ true
+    pub marks-fit : fits32 (marksResidue d cmd sent v) ≡ true
     marks-fit = difference-fits (transferOf cmd) (length (goesDown WriteFilemarks d cmd sent v)) (omega arith) (omega (arith, n, down-most WriteFilemarks, marks-offered))
 
 -- SPACE to end of data tells nothing; over blocks or filemarks it leaves no more of its count, so what fits if that does
-pub space-fits : (d : Drive) (v : Seen) (code : ℕ) (k : ℤ) → fits k ≡ true → statusOf ((spacing d code k v) .tells) ≡ checkCondition → fits (spaceResidue d code k v) ≡ true
+pub space-fits : (d : Drive) (v : Seen) (code : ℕ) (k : ℤ) → fits32 k ≡ true → statusOf ((spacing d code k v) .tells) ≡ checkCondition → fits32 (spaceResidue d code k v) ≡ true
 unfolding spacing movement spaceTells statusOf M.toEndOfData
 space-fits d v code k f = by (eqb code toEnd)
   where
-    go : (c : M.Code) (k : ℤ) → fits k ≡ true → fits (M.residue k (M.space c k (d .position) (v .objects))) ≡ true
-    go c (pos m) f = let h = ltb-true m (2 ^ 31) (unfold fits in f) in subst (λ (z : ℤ). fits z ≡ true) (sym (residue-on c m (d .position) (v .objects))) (above-fits (m - (M.walk c m (drop (d .position) (v .objects))) .counted) (omega arith))
-    go c (negsuc m) f = let h = ltb-true m (2 ^ 31) (unfold fits in f) in subst (λ (z : ℤ). fits z ≡ true) (sym (residue-back c m (d .position) (v .objects))) (opposite-fits (suc m - (M.walk c (suc m) (M.before (d .position) (v .objects))) .counted) (omega arith))
+    go : (c : M.Code) (k : ℤ) → fits32 k ≡ true → fits32 (M.residue k (M.space c k (d .position) (v .objects))) ≡ true
+    go c (pos m) f = let h = ltb-true m (2 ^ 31) (unfold fits32 in f) in subst (λ (z : ℤ). fits32 z ≡ true) (sym (residue-on c m (d .position) (v .objects))) (above-fits (m - (M.walk c m (drop (d .position) (v .objects))) .counted) (omega arith))
+    go c (negsuc m) f = let h = ltb-true m (2 ^ 31) (unfold fits32 in f) in subst (λ (z : ℤ). fits32 z ≡ true) (sym (residue-back c m (d .position) (v .objects))) (opposite-fits (suc m - (M.walk c (suc m) (M.before (d .position) (v .objects))) .counted) (omega arith))
 
     by : (t : Bool) → statusOf (spaceTells v k (cond t (M.toEndOfData (d .position) (v .objects)) (M.space (cond (eqb code overBlocks) M.blocks M.filemarks) k (d .position) (v .objects)))) ≡ checkCondition
-        → fits (M.residue k (cond t (M.toEndOfData (d .position) (v .objects)) (M.space (cond (eqb code overBlocks) M.blocks M.filemarks) k (d .position) (v .objects)))) ≡ true
+        → fits32 (M.residue k (cond t (M.toEndOfData (d .position) (v .objects)) (M.space (cond (eqb code overBlocks) M.blocks M.filemarks) k (d .position) (v .objects)))) ≡ true
     by true s = absurd (omega arith)
     by false s = go (cond (eqb code overBlocks) M.blocks M.filemarks) k f
 
 -- that of six bytes has a count of 24 bits, which fits
-pub count-fits : (cmd : List ℕ) → be 3 cmd 2 < 2 ^ 24 → fits (spaceCountOf cmd) ≡ true
+pub count-fits : (cmd : List ℕ) → be 3 cmd 2 < 2 ^ 24 → fits32 (spaceCountOf cmd) ≡ true
 unfolding spaceCountOf signed
 count-fits cmd n = go (ltb (be 3 cmd 2) (2 ^ 23)) refl
   where
-    go : (t : Bool) → ltb (be 3 cmd 2) (2 ^ 23) ≡ t → fits (cond t (pos (be 3 cmd 2)) (negsuc (2 ^ 23 + 2 ^ 23 - suc (be 3 cmd 2)))) ≡ true
+    go : (t : Bool) → ltb (be 3 cmd 2) (2 ^ 23) ≡ t → fits32 (cond t (pos (be 3 cmd 2)) (negsuc (2 ^ 23 + 2 ^ 23 - suc (be 3 cmd 2)))) ≡ true
     go true q = above-fits (be 3 cmd 2) (omega arith)
     go false q = below-fits (2 ^ 23 + 2 ^ 23 - suc (be 3 cmd 2)) (omega arith)

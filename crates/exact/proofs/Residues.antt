@@ -16,7 +16,7 @@ use lib.Dec.{eqb}
 use lib.IntN.{ℤ, pos, negsuc, subℕ}
 use lib.ListN.{length, take, getElem?}
 use Rattle.words.specs.Words.{be}
-use Rattle.words.specs.Signed.{signed, wrapped, fits}
+use Rattle.words.specs.Signed.{signed, wrapped, fits32}
 use Rattle.words.proofs.Wraps.{subℕ-cases}
 use Rattle.answers.specs.Answers.{checkCondition, first}
 use Rattle.answers.proofs.First.{not-both}
@@ -61,7 +61,7 @@ Keyed k = (k ≡ noSense) ⊎ ((k ≡ blankCheck) ⊎ (k ≡ volumeOverflow))
 
 abbrev Reports : ℤ → Option Sense → Type 0
 Reports z none = Unit {0}
-Reports z (some s) = (s .valid ≡ fits z) × (s .information ≡ cond (fits z) (wrapped z) 0) × Keyed (s .key)
+Reports z (some s) = (s .valid ≡ fits32 z) × (s .information ≡ cond (fits32 z) (wrapped z) 0) × Keyed (s .key)
 
 itself : (n : ℕ) → subℕ n n ≡ pos 0
 itself n = subℕ-cases (λ z. z ≡ pos 0) n n (λ h. absurd (omega arith)) (λ h. ap pos (let e : n - n ≡ 0 = omega arith in e))
@@ -275,7 +275,7 @@ module _ (rec : List ℕ) (x : Lent) where
       rw s (image-small (partition (d .current) (x .part0) (x .part1)) (inside d (x .part0) (x .part1) (r .well .cart) z .right) .0)
 
   -- the residues of 01's four always fit
-  pub always-fits : Acts rec x → counts o ≡ true → o ≢ Space16 → R .answer .status ≡ checkCondition → fits Z ≡ true
+  pub always-fits : Acts rec x → counts o ≡ true → o ≢ Space16 → R .answer .status ≡ checkCondition → fits32 Z ≡ true
   unfolding residueOf looksAt act transferOf
   always-fits a c n s = go (counting o c)
     where
@@ -289,7 +289,7 @@ module _ (rec : List ℕ) (x : Lent) where
       small = count-small (x .cmd) c n (in-masks r)
 
       P : Operation → Type 0
-      P k = fits (residueOf k d (x .cmd) (x .sent) v) ≡ true
+      P k = fits32 (residueOf k d (x .cmd) (x .sent) v) ≡ true
 
       tells : (k : Operation) → o ≡ k → statusOf ((act k d (x .cmd) (x .sent) v) .tells) ≡ checkCondition
       tells k e = subst (λ (k : Operation). statusOf ((act k d (x .cmd) (x .sent) v) .tells) ≡ checkCondition) e (sym (after-act rec x f .0) ∙ s)
@@ -306,10 +306,10 @@ module _ (rec : List ℕ) (x : Lent) where
   said n c s = subst (Reports Z) (heard rec x n s) (act-reports d (x .cmd) (x .sent) v o c)
 
   pub record Reported : Type 0 where
-    pub valid : senseAfter R .valid ≡ fits Z
-    pub information : fits Z ≡ true → senseAfter R .information ≡ wrapped Z
-    pub read-as : fits Z ≡ true → signed (2 ^ 31) (senseAfter R .information) ≡ Z
-    pub silent : fits Z ≡ false → senseAfter R .information ≡ 0
+    pub valid : senseAfter R .valid ≡ fits32 Z
+    pub information : fits32 Z ≡ true → senseAfter R .information ≡ wrapped Z
+    pub read-as : fits32 Z ≡ true → signed (2 ^ 31) (senseAfter R .information) ≡ Z
+    pub silent : fits32 Z ≡ false → senseAfter R .information ≡ 0
 
   pub reported : Acts rec x → counts o ≡ true → R .answer .status ≡ checkCondition → Reported
   reported a c s = record {
@@ -322,7 +322,7 @@ module _ (rec : List ℕ) (x : Lent) where
       h : Reports Z (some (senseAfter R))
       h = said (acts-exactly rec x .1 a) c s
 
-      shown : (t : Bool) → fits Z ≡ t → senseAfter R .information ≡ cond t (wrapped Z) 0
+      shown : (t : Bool) → fits32 Z ≡ t → senseAfter R .information ≡ cond t (wrapped Z) 0
       shown t f = h .1 ∙ ap (λ (b : Bool). cond b (wrapped Z) 0) f
 
   -- "position after it", "position there", "position and N then stand after the last put", ..: behind the objects crossed or put
@@ -340,7 +340,7 @@ module _ (rec : List ℕ) (x : Lent) where
   -- Q-1: "residues that don't fit 32 signed bits are reported with VALID 0 and information 0"
 
   pub record ValidExactly : Type 0 where
-    pub valid : (senseAfter R .valid ≡ true) ↔ ((counts o ≡ true) × (((senseAfter R .key ≡ noSense) ⊎ ((senseAfter R .key ≡ blankCheck) ⊎ (senseAfter R .key ≡ volumeOverflow))) × (fits Z ≡ true)))
+    pub valid : (senseAfter R .valid ≡ true) ↔ ((counts o ≡ true) × (((senseAfter R .key ≡ noSense) ⊎ ((senseAfter R .key ≡ blankCheck) ⊎ (senseAfter R .key ≡ volumeOverflow))) × (fits32 Z ≡ true)))
     pub otherwise : senseAfter R .valid ≡ false → senseAfter R .information ≡ 0
 
   -- neither is set, and the rule does not hold
@@ -363,7 +363,7 @@ module _ (rec : List ℕ) (x : Lent) where
 
   -- a test tells under another key, and no residue
   other-key : ByTest rec x → Keyed (senseAfter R .key) → ⊥
-  unfolding told reports fits
+  unfolding told reports fits32
   other-key p h = go (p .key) (p .silent (pos 0)) (subst Keyed (ap (λ (y : Sense). y .key) (p .is)) h)
     where
       go : (k : ℕ) → reports true k (pos 0) ≡ false → Keyed k → ⊥
@@ -387,10 +387,10 @@ module _ (rec : List ℕ) (x : Lent) where
       → (senseAfter R .valid ≡ true) ↔ ((counts o ≡ true) × ((senseAfter R .key ≡ noSense) ⊎ ((senseAfter R .key ≡ blankCheck) ⊎ (senseAfter R .key ≡ volumeOverflow))))
   valid-as-01 s n = ((λ h. let p = w .0 h in (p .0, p .1 .0)), (λ h. w .1 (h .0, (h .1, fitting-so (first T) refl (h .0) (h .1)))))
     where
-      w : (senseAfter R .valid ≡ true) ↔ ((counts o ≡ true) × (Keyed (senseAfter R .key) × (fits Z ≡ true)))
+      w : (senseAfter R .valid ≡ true) ↔ ((counts o ≡ true) × (Keyed (senseAfter R .key) × (fits32 Z ≡ true)))
       w = valid-exactly s .valid
 
-      fitting-so : (t : Option Stop) → first T ≡ t → counts o ≡ true → Keyed (senseAfter R .key) → fits Z ≡ true
+      fitting-so : (t : Option Stop) → first T ≡ t → counts o ≡ true → Keyed (senseAfter R .key) → fits32 Z ≡ true
       fitting-so none e c k = always-fits (acts-exactly rec x .0 e) c n s
       fitting-so (some p) e c k = absurd (other-key (told-test rec x p e s) k)
 

@@ -5,7 +5,7 @@ use native.Mathlib.Omega.{arith}
 use mathlib.Core.Path.{_≡_, refl}
 use mathlib.Core.Logic.{inl, inr}
 use Rattle.words.specs.Words.{be, bytes, over, zeros}
-use Rattle.words.specs.Signed.{signed, wrapped, fits}
+use Rattle.words.specs.Signed.{signed, wrapped, fits32}
 use Rattle.objects.specs.Object.{bytesIn, filemarksIn}
 use Rattle.objects.specs.Movement as M
 use Rattle.image.specs.Image.{count, flags, protected, directory, size, entry, topBit, low31, endAt, follows, ordered, rightLength, sound, objectAt, upto, objects}
@@ -35,7 +35,7 @@ use Rattle.history.specs.Lives.{uses, oneDrive, severalDrives, Computed}
 pub computed : Computed
 unfolding blank64 uses oneDrive severalDrives AllHarmless callsOf recordUsed after caused events ends past metOf readings partsOf
     hidden readVariable reading
-    be bytes over signed wrapped fits bytesIn filemarksIn M.walk M.before M.ahead M.astern M.space M.residue M.toEndOfData M.toObject
+    be bytes over signed wrapped fits32 bytesIn filemarksIn M.walk M.before M.ahead M.astern M.space M.residue M.toEndOfData M.toObject
     count flags protected directory size entry topBit low31 endAt follows ordered rightLength sound objectAt upto objects retitle entryOf enter occur occurs cleared blank protect reflag
     blankCall faultOf protectCall rightLengths bothSound mountFault mountCall senseBytes reports told emptySense attentionSense
     decodeOf encodeOf attentionKnown emptyHanded placed wellFormed wellRecord freshDrive mountedDrive withSense unloaded loadedAnew tooShort inMasks masksHold

@@ -10,7 +10,7 @@ use borrow.Author.Tests.{eq-eqb, ne-eqb}
 use lib.Dec.{eqb, leb}
 use lib.IntN.{ℤ, pos, negsuc, negℤ, subℕ, _-ℤ_}
 use lib.ListN.{drop, length-drop}
-use Rattle.words.specs.Signed.{wrapped, fits}
+use Rattle.words.specs.Signed.{wrapped, fits32}
 use Rattle.words.proofs.Wraps.{subℕ-cases, wrapped-sub}
 use Rattle.objects.specs.Object.{Object}
 use Rattle.objects.specs.Movement.{Code, blocks, filemarks, done, marked, edge, Walk, walk, before, Move, ahead, astern, space, residue, toEndOfData}
@@ -90,14 +90,14 @@ opposite zero zero h = refl
 opposite zero (suc c) h = absurd (not-suc-le-zero h)
 opposite (suc n) c h = left-back n c h
 
-fits-back : (n : ℕ) → leb n (2 ^ 31) ≡ fits (negℤ (pos n))
-unfolding fits
+fits-back : (n : ℕ) → leb n (2 ^ 31) ≡ fits32 (negℤ (pos n))
+unfolding fits32
 fits-back zero = refl
 fits-back (suc n) = one-less n (2 ^ 31)
 
 pub shown-back : (n c q a : ℕ) → c ≤ n → q ≡ wrapped (subℕ 0 n) → a ≡ wrapped (subℕ 0 c)
-    → (leb (n - c) (2 ^ 31) ≡ fits (negℤ (pos n) -ℤ negℤ (pos c))) × (wrapped (subℕ q a) ≡ wrapped (negℤ (pos n) -ℤ negℤ (pos c)))
-shown-back n c q a h eq ea = (fits-back (n - c) ∙ ap fits (sym (opposite n c h)), rw (eq ∙ ap wrapped (minus n), ea ∙ ap wrapped (minus c)) (wrapped-sub (negℤ (pos n)) (negℤ (pos c))))
+    → (leb (n - c) (2 ^ 31) ≡ fits32 (negℤ (pos n) -ℤ negℤ (pos c))) × (wrapped (subℕ q a) ≡ wrapped (negℤ (pos n) -ℤ negℤ (pos c)))
+shown-back n c q a h eq ea = (fits-back (n - c) ∙ ap fits32 (sym (opposite n c h)), rw (eq ∙ ap wrapped (minus n), ea ∙ ap wrapped (minus c)) (wrapped-sub (negℤ (pos n)) (negℤ (pos c))))
 
 pub counts-within : (c : Code) (n : ℕ) (xs : List Object) (w : Walk) → w ≡ walk c n xs → w .counted ≤ n
 counts-within c n xs w e = subst (λ (x : Walk). x .counted ≤ n) (sym e) (counted-le c n xs)

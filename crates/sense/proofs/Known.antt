@@ -6,7 +6,7 @@ use mathlib.Core.Path.{_≡_, refl}
 use mathlib.Core.List.{[], _∷_}
 use lib.IntN.{pos, negsuc}
 use Rattle.words.specs.Words.{bytes}
-use Rattle.words.specs.Signed.{wrapped, fits}
+use Rattle.words.specs.Signed.{wrapped, fits32}
 use Rattle.sense.specs.Sense.{noSense, blankCheck, illegalRequest, senseBytes, reports, told, plainly, emptySense, attentionSense}
 
 -- 70h first, 0Ah in byte 7, else 0
@@ -21,7 +21,7 @@ attention-is = refl
 
 -- P10: F0 00 80 FF FF FF FB 0A, byte 13 01
 marked-is : senseBytes (told true true false false noSense 0x00 0x01 (negsuc 4)) ≡ 0xF0 ∷ 0 ∷ 0x80 ∷ 0xFF ∷ 0xFF ∷ 0xFF ∷ 0xFB ∷ 0x0A ∷ 0 ∷ 0 ∷ 0 ∷ 0 ∷ 0 ∷ 0x01 ∷ 0 ∷ 0 ∷ 0 ∷ 0 ∷ []
-unfolding senseBytes reports told bytes wrapped fits
+unfolding senseBytes reports told bytes wrapped fits32
 marked-is = refl
 
 -- key 5 reports no residue, nor does a command that counts nothing
@@ -31,17 +31,17 @@ field-is = (refl, refl)
 
 -- Q-1: 2^31 − 1 is reported, 2^31 with VALID 0 and information 0; −2^31 is reported, −2^31 − 1 is not
 largest-is : senseBytes (told true true false false noSense 0x00 0x01 (pos (2 ^ 31 - 1))) ≡ 0xF0 ∷ 0 ∷ 0x80 ∷ 0x7F ∷ 0xFF ∷ 0xFF ∷ 0xFF ∷ 0x0A ∷ 0 ∷ 0 ∷ 0 ∷ 0 ∷ 0 ∷ 0x01 ∷ 0 ∷ 0 ∷ 0 ∷ 0 ∷ []
-unfolding senseBytes reports told bytes wrapped fits
+unfolding senseBytes reports told bytes wrapped fits32
 largest-is = refl
 
 past-is : senseBytes (told true true false false noSense 0x00 0x01 (pos (2 ^ 31))) ≡ 0x70 ∷ 0 ∷ 0x80 ∷ 0 ∷ 0 ∷ 0 ∷ 0 ∷ 0x0A ∷ 0 ∷ 0 ∷ 0 ∷ 0 ∷ 0 ∷ 0x01 ∷ 0 ∷ 0 ∷ 0 ∷ 0 ∷ []
-unfolding senseBytes reports told bytes fits
+unfolding senseBytes reports told bytes fits32
 past-is = refl
 
 least-is : senseBytes (told true false true false noSense 0x00 0x04 (negsuc (2 ^ 31 - 1))) ≡ 0xF0 ∷ 0 ∷ 0x40 ∷ 0x80 ∷ 0 ∷ 0 ∷ 0 ∷ 0x0A ∷ 0 ∷ 0 ∷ 0 ∷ 0 ∷ 0 ∷ 0x04 ∷ 0 ∷ 0 ∷ 0 ∷ 0 ∷ []
-unfolding senseBytes reports told bytes wrapped fits
+unfolding senseBytes reports told bytes wrapped fits32
 least-is = refl
 
 below-is : senseBytes (told true false true false noSense 0x00 0x04 (negsuc (2 ^ 31))) ≡ 0x70 ∷ 0 ∷ 0x40 ∷ 0 ∷ 0 ∷ 0 ∷ 0 ∷ 0x0A ∷ 0 ∷ 0 ∷ 0 ∷ 0 ∷ 0 ∷ 0x04 ∷ 0 ∷ 0 ∷ 0 ∷ 0 ∷ []
-unfolding senseBytes reports told bytes fits
+unfolding senseBytes reports told bytes fits32
 below-is = refl

@@ -12,7 +12,7 @@ use lib.IntN.{ℤ, pos, negsuc, subℕ}
 use lib.ListN.{getD}
 use mir.Val.{boolByte}
 use Rattle.words.specs.Words.{be}
-use Rattle.words.specs.Signed.{wrapped, fits}
+use Rattle.words.specs.Signed.{wrapped, fits32}
 use Rattle.words.proofs.Stores.{low8, four-bytes}
 use Rattle.words.proofs.Flags.{flag}
 use Rattle.words.proofs.Wraps.{subℕ-cases}
@@ -82,13 +82,13 @@ one-less n m = go (leb (suc n) m) refl
     go false e = sym (le-ltb n m (let h = leb-false (suc n) m e in omega arith))
 
 module _ (a b : ℕ) where
-  pub fits-above : b ≤ a → ltb (a - b) (2 ^ 31) ≡ fits (subℕ a b)
-  unfolding fits
-  fits-above h = subℕ-cases (λ z. ltb (a - b) (2 ^ 31) ≡ fits z) a b (λ l. absurd (let w : ⊥ = omega arith in w)) (λ l. refl)
+  pub fits-above : b ≤ a → ltb (a - b) (2 ^ 31) ≡ fits32 (subℕ a b)
+  unfolding fits32
+  fits-above h = subℕ-cases (λ z. ltb (a - b) (2 ^ 31) ≡ fits32 z) a b (λ l. absurd (let w : ⊥ = omega arith in w)) (λ l. refl)
 
-  pub fits-below : a < b → leb (b - a) (2 ^ 31) ≡ fits (subℕ a b)
-  unfolding fits
-  fits-below h = subℕ-cases (λ z. leb (b - a) (2 ^ 31) ≡ fits z) a b (λ l. let e : b - a ≡ suc (b - suc a) = omega arith in rw e (one-less (b - suc a) (2 ^ 31))) (λ l. absurd (let w : ⊥ = omega arith in w))
+  pub fits-below : a < b → leb (b - a) (2 ^ 31) ≡ fits32 (subℕ a b)
+  unfolding fits32
+  fits-below h = subℕ-cases (λ z. leb (b - a) (2 ^ 31) ≡ fits32 z) a b (λ l. let e : b - a ≡ suc (b - suc a) = omega arith in rw e (one-less (b - suc a) (2 ^ 31))) (λ l. absurd (let w : ⊥ = omega arith in w))
 
 -- ---- when VALID is set, test by test
 
@@ -105,7 +105,7 @@ module _ (counts : Bool) (key : ℕ) (z : ℤ) where
   unfolding reports
   not-counted h = rw (not-true counts h) refl
 
-  module _ (t : Bool) (et : t ≡ fits z) where
+  module _ (t : Bool) (et : t ≡ fits32 z) where
     pub not-fitting : not t ≡ true → false ≡ reports counts key z
     unfolding reports
     not-fitting h = rw (← et, not-true t h) (lost (counts && (eqb key noSense || eqb key blankCheck || eqb key volumeOverflow)))
@@ -125,7 +125,7 @@ module _ (counts : Bool) (key : ℕ) (z : ℤ) where
         by-overflow m = rw (not-false counts h, ← et, not-false t f, ne-eqb key noSense n, ne-eqb key blankCheck m) (kept (eqb key volumeOverflow))
 
 -- two residues that do not fit are told alike
-pub told-unfit : (counts f e i : Bool) (key asc ascq : ℕ) (a b : ℤ) → fits a ≡ false → fits b ≡ false → told counts f e i key asc ascq a ≡ told counts f e i key asc ascq b
+pub told-unfit : (counts f e i : Bool) (key asc ascq : ℕ) (a b : ℤ) → fits32 a ≡ false → fits32 b ≡ false → told counts f e i key asc ascq a ≡ told counts f e i key asc ascq b
 unfolding told reports
 told-unfit counts f e i key asc ascq a b x y = rw (x, y, ← lost (counts && (eqb key noSense || eqb key blankCheck || eqb key volumeOverflow))) refl
 

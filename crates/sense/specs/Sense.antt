@@ -8,7 +8,7 @@ use lib.Dec.{eqb}
 use lib.IntN.{ℤ, pos, subℕ}
 use lib.ListN.{getD}
 use Rattle.words.specs.Words.{be, bytes, zeros}
-use Rattle.words.specs.Signed.{wrapped, fits}
+use Rattle.words.specs.Signed.{wrapped, fits32}
 use Rattle.sense.specs.declared.Sense.{Sense}
 use Rattle.sense.specs.declared.Residue.{Residue}
 
@@ -127,7 +127,7 @@ partsOf b = record {
 -- "VALID is set for READ, WRITE, WRITE FILEMARKS and SPACE with key 0, 8 or D": `counts` says that the command is one of these four;
 -- Q-1: "residues that don't fit 32 signed bits are reported with VALID 0 and information 0"
 unfoldable pub reports : Bool → ℕ → ℤ → Bool
-reports counts key residue = counts && (eqb key noSense || eqb key blankCheck || eqb key volumeOverflow) && fits residue
+reports counts key residue = counts && (eqb key noSense || eqb key blankCheck || eqb key volumeOverflow) && fits32 residue
 
 -- "otherwise it and information are 0"; else the information is the residue, in 32 bits
 unfoldable pub told : Bool → Bool → Bool → Bool → ℕ → ℕ → ℕ → ℤ → Sense
@@ -144,7 +144,7 @@ told counts filemark eom ili key asc ascq residue = record {
 
 -- what the code has of a residue z: whether it fits, and two numbers of 32 bits whose difference encodes it
 abbrev pub Shows : Residue → ℤ → Type 0
-Shows r z = (r .fits ≡ fits z) × (wrapped (subℕ (r .request) (r .actual)) ≡ wrapped z)
+Shows r z = (r .fits ≡ fits32 z) × (wrapped (subℕ (r .request) (r .actual)) ≡ wrapped z)
 
 -- key, ASC and ASCQ alone
 abbrev pub plainly : ℕ → ℕ → ℕ → Sense

@@ -3,7 +3,7 @@ ghost use mathlib.Core.Path.{_≡_};
 ghost use mathlib.Core.Bool.{cond};
 ghost use Prim.Native.Nat.{_+_, _%_};
 ghost use lib.IntN.{ℤ, subℕ};
-ghost use Rattle.words.specs.Signed.{fits as Signed·fits};
+ghost use Rattle.words.specs.Signed.{fits32};
 ghost use Rattle.sense.specs.Sense.{senseBytes, partsOf, Shows, emptySense, attentionSense};
 ghost use Rattle.sense.specs.Sense.{reports as Sense·reports, told as Sense·told, plainly as Sense·plainly};
 
@@ -145,8 +145,8 @@ pub struct Residue {
 pub const PAST_32_BITS: u32 = 0x8000_0000;
 
 // Whether request - actual fits 32 signed bits.
-fn fits(request: u32, actual: u32) -> bool
-    ensures { λ r. ⌜ r ≡ Signed·fits (subℕ request actual) ⌝ }
+fn fits_32(request: u32, actual: u32) -> bool
+    ensures { λ r. ⌜ r ≡ fits32 (subℕ request actual) ⌝ }
 {
     if actual <= request {
         return request - actual < PAST_32_BITS;
@@ -158,7 +158,7 @@ fn fits(request: u32, actual: u32) -> bool
 pub fn residue_of(request: u32, actual: u32) -> Residue
     ensures { λ r. ⌜ Shows r (subℕ request actual) ⌝ }
 {
-    let fits = fits(request, actual);
+    let fits = fits_32(request, actual);
     Residue {
         fits,
         request,
@@ -168,7 +168,7 @@ pub fn residue_of(request: u32, actual: u32) -> Residue
 
 // Whether VALID is set: `counts` says that the command is READ, WRITE, WRITE FILEMARKS or SPACE, `fits` that its residue fits 32 signed bits.
 fn reports(counts: bool, key: u8, fits: bool) -> bool
-    ensures { λ r. ⌜ ((z : ℤ) → fits ≡ Signed·fits z → r ≡ Sense·reports counts key z) ⌝ }
+    ensures { λ r. ⌜ ((z : ℤ) → fits ≡ fits32 z → r ≡ Sense·reports counts key z) ⌝ }
 {
     if !counts {
         return false;

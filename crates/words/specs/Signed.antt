@@ -16,6 +16,6 @@ wrapped (pos n) = n % 2 ^ 32
 wrapped (negsuc n) = 2 ^ 32 - suc (n % 2 ^ 32)
 
 -- z fits 32 signed bits: it is −2^31 to 2^31 − 1
-unfoldable pub fits : ℤ → Bool
-fits (pos n) = ltb n (2 ^ 31)
-fits (negsuc n) = ltb n (2 ^ 31)
+unfoldable pub fits32 : ℤ → Bool
+fits32 (pos n) = ltb n (2 ^ 31)
+fits32 (negsuc n) = ltb n (2 ^ 31)

@@ -3,8 +3,8 @@
 use native.Mathlib.Omega.{arith}
 use borrow.Author.Needs.{needs}
 use Rattle.sense.proofs.Packing.{fits-above, fits-below}
-use Rattle.sense.proofs.fits.Statement.{statement}
-use Rattle.sense.proofs.fits.Tie as tie
+use Rattle.sense.proofs.fits_32.Statement.{statement}
+use Rattle.sense.proofs.fits_32.Tie as tie
 
 returns : tie.Need-returns
 returns c = fits-above _ _ (c .if1 .taken)
@@ -15,5 +15,5 @@ sub-result c = search needs
 returns-2 : tie.Need-returns-2
 returns-2 c = fits-below (c .before .args .request) (c .before .args .actual) (omega arith)
 
-pub fits-spec : {M : Type 1} → statement M
-fits-spec = tie.close (tie.spec returns sub-result returns-2)
+pub fits-32-spec : {M : Type 1} → statement M
+fits-32-spec = tie.close (tie.spec returns sub-result returns-2)
