@@ -47,7 +47,8 @@ fn locate_object(s: &[u8], d: Drive, target: u8, n: u64) -> Left
 {
     let count = image::count_of(s);
     if n <= count as u64 {
-        return deeds::good(at_partition(d, target, n as u32), 0);
+        let there = n as u32;
+        return deeds::good(at_partition(d, target, there), 0);
     }
     stops_at(s, d, target, count)
 }

@@ -13,8 +13,8 @@ count-of-requires c κs = trailer-in _ (c .before .pre)
 cast-if1 : tie.Need-cast-if1
 cast-if1 c = search needs
 
-cast-at-partition : tie.Need-cast-at-partition
-cast-at-partition c = search needs
+cast-there : tie.Need-cast-there
+cast-there c = search needs
 
 at-partition-requires : tie.Need-at-partition-requires
 at-partition-requires c κs = search needs
@@ -37,7 +37,7 @@ locate-object-spec =
     (tie.spec
     count-of-requires
     cast-if1
-    cast-at-partition
+    cast-there
     at-partition-requires
     good-requires
     returns
