@@ -44,7 +44,7 @@ abbrev changes : List ℕ → ℕ → ℕ → Answer → ℕ → ℕ → List �
 changes command from position answer to place sense =
     record { rec = both from position nothingKept; lends = lent command E files [] []; leaves = result answer (both to place sense) (lent command E files [] []) }
 
--- the senses: end of data by LOCATE; a field error; what SPACE met, with a residue or, where that does not fit, without
+-- two senses: end of data, by LOCATE; a field error
 abbrev past : List ℕ
 past = plain 8 0x00 0x05
 
@@ -105,7 +105,7 @@ sixteens =
     reaches E 0 (space 3 (minus 1)) 2 ∷
     tells E 1 (space 2 1) 1 fieldError ∷
     reaches guarded 0 (space 1 1) 2 ∷
-    -- a residue of 2^31 − 1 fits, one of 2^31 does not; nor one that fits 24 or 32 bits by its low bits alone
+    -- a residue of 2^31 − 1 fits, one of 2^31 does not; nor one that would fit by its low 32 bits alone
     tells files 0 (space 0 (2 ^ 31 + 1)) 3 (sense18 0xF0 0x80 0x7FFFFFFF 0x00 0x01) ∷
     tells files 0 (space 0 (2 ^ 31 + 2)) 3 (sense18 0x70 0x80 0 0x00 0x01) ∷
     tells files 0 (space 1 (2 ^ 31 + 1)) 5 (sense18 0xF0 0x08 0x7FFFFFFF 0x00 0x05) ∷
