@@ -261,6 +261,43 @@ static const struct edge spaced_far[] = {
      .told = NO_RESIDUE(TOLD_FILEMARK)},
 };
 
+/* ---- calls of edges/specs/Sixteen.antt that none of those above is: each as the checker computed it */
+
+static const struct edge computed[] = {
+    {"file 1 of two, from behind it", FILES, LOCATE_16(TO_FILE, 1, 0), AT(4), .after = AT(3)},
+    {"file 2 of two, which is empty", FILES, LOCATE_16(TO_FILE, 2, 0), AT(4), .after = AT(5)},
+    {"file 3 of two", FILES, LOCATE_16(TO_FILE, 3, 0), AT(1), .after = AT(5), .told = PAST_END},
+    {"file 2^32", FILES, LOCATE_16(TO_FILE, POWER_32, 0), AT(0), .after = AT(5), .told = PAST_END},
+    {"file 2^32 + 1", FILES, LOCATE_16(TO_FILE, POWER_32 + 1, 0), AT(0), .after = AT(5), .told = PAST_END},
+    {"end of data, all FFh", FILES, LOCATE_16(TO_END, ALL_BITS, 0), AT(0), .after = AT(5)},
+    {"object 0 of the other partition", E, LOCATE_16(CP, 0, 1), TWO(0, 2), .p1 = FILES, .after = TWO(1, 0)},
+    {"a file of the other partition, IMMED", E, LOCATE_16(CP | IMMED | TO_FILE, 2, 1), TWO(0, 0), .p1 = FILES,
+     .after = TWO(1, 5)},
+    {"back to object 1 of partition 0", E, LOCATE_16(CP, 1, 0), TWO(1, 5), .p1 = FILES, .after = TWO(0, 1)},
+    {"past the files of the other partition", E, LOCATE_16(CP | TO_FILE, 3, 1), TWO(0, 1), .p1 = FILES,
+     .after = TWO(1, 5), .told = PAST_END},
+    {"partition 2 of two moves nothing", E, LOCATE_16(CP, 0, 2), TWO(1, 4), .p1 = FILES, .after = TWO(1, 4),
+     .told = PLAIN(TOLD_FIELD)},
+    {"byte 3 without CP, on partition 1", E, LOCATE_16(0, 1, 255), TWO(1, 4), .p1 = FILES, .after = TWO(1, 1)},
+    {"LOCATE (16) under an attention", E, LOCATE_16(TO_OBJECT, 0, 0), LOADED(ATTENTION_MOUNTED, 1, 0), .after = AT(1),
+     .told = PLAIN(TOLD_MOUNTED)},
+    {"no filemarks", E, SPACE_16(FILEMARKS, 0), AT(1), .after = AT(1)},
+    {"end of data, count -1", E, SPACE_16(TO_END_OF_DATA, -1), AT(0), .after = AT(2)},
+    {"code 2", E, SPACE_16(2, 1), AT(1), .after = AT(1), .told = PLAIN(TOLD_FIELD)},
+    {"filemarks 2^32 + 3", FILES, SPACE_16(FILEMARKS, POWER_32 + 3), AT(0), .after = AT(5),
+     .told = NO_RESIDUE(TOLD_END_OF_DATA)},
+    {"blocks -2^31 at a filemark", FILES, SPACE_16(BLOCKS, -POWER_31), AT(3), .after = AT(2),
+     .told = RESIDUE(TOLD_FILEMARK, 0x80000000)},
+    {"blocks -2^31 - 1 at a filemark", FILES, SPACE_16(BLOCKS, -POWER_31 - 1), AT(3), .after = AT(2),
+     .told = NO_RESIDUE(TOLD_FILEMARK)},
+    {"filemarks 2^63 - 1", FILES, SPACE_16(FILEMARKS, MOST), AT(1), .after = AT(5),
+     .told = NO_RESIDUE(TOLD_END_OF_DATA)},
+    {"blocks 2^63 - 1", FILES, SPACE_16(BLOCKS, MOST), AT(0), .after = AT(3), .told = NO_RESIDUE(TOLD_FILEMARK)},
+    {"filemarks -2^63", FILES, SPACE_16(FILEMARKS, LEAST), AT(5), .after = AT(0),
+     .told = NO_RESIDUE(TOLD_BEGINNING)},
+    {"blocks -2^63", FILES, SPACE_16(BLOCKS, LEAST), AT(4), .after = AT(2), .told = NO_RESIDUE(TOLD_FILEMARK)},
+};
+
 static void long_movement(void)
 {
     run(objects_located, COUNT(objects_located));
@@ -269,6 +306,7 @@ static void long_movement(void)
     run(partitions_located, COUNT(partitions_located));
     run(spaced, COUNT(spaced));
     run(spaced_far, COUNT(spaced_far));
+    run(computed, COUNT(computed));
 }
 
 #endif
