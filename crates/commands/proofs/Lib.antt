@@ -8,4 +8,5 @@ pub mod Ends
 pub mod Exact
 pub mod Goes
 pub mod Laid
+pub mod Zone
 pub mod Replies

@@ -36,9 +36,10 @@ pub record Seen : Type 0 where
 abbrev pub zoneAt : Seen → ℕ → Bool
 zoneAt v n = zoneIn (v .size) (roomOf (v .size) n (bytesIn (take n (v .objects))))
 
--- the EOM bit at end of data: "EOM 0 (H)"
-abbrev pub eomAtEnd : Seen → Bool
-eomAtEnd v = false
+-- the EOM bit at end of data. Q-2: "Set it exactly when position N of the partition is in the zone"; 01 had "EOM 0 (H)" for READ and SPACE, "EOM 0"
+-- for LOCATE. The partition is the one that the command looks at: LOCATE's target.
+unfoldable pub eomAtEnd : Seen → Bool
+eomAtEnd v = zoneAt v (length (v .objects))
 
 -- ---- what it leaves: the drive but for its sense, what it tells (nothing: GOOD), the data for the receiving buffer, and the bytes carried
 
@@ -231,7 +232,7 @@ byEnd = 3
 unfoldable pub destination16 : List ℕ → M.Destination
 destination16 cmd = cond (eqb (destinationOf cmd) byFile) (M.file (identifierOf cmd)) (cond (eqb (destinationOf cmd) byEnd) M.endOfData (M.object (identifierOf cmd)))
 
--- "Above N: 8/00/05, EOM 0"; Q-1: "an identifier past what exists is 8/00/05 at end of data"
+-- "Above N: 8/00/05"; Q-1: "an identifier past what exists is 8/00/05 at end of data"
 unfoldable pub locateTells : Seen → M.Why → Option Sense
 locateTells v M.done = none
 locateTells v M.marked = none

@@ -61,14 +61,13 @@ pub fn beginning_met(rest: Residue) -> Sense
     met(false, true, false, BEGINNING_OF_PARTITION, rest)
 }
 
-// EOM at end of data: by a house rule always the same, whatever is seen of the partition.
-const EOM_AT_END: bool = false;
-
+// EOM at end of data of the partition s: whether position N is in the zone.
 fn eom_at_end(s: &[u8]) -> bool
     requires { ⌜ sound (now s) ≡ true ⌝ }
     ensures { λ r. ⌜ r ≡ eomAtEnd (seenOf (now (s .entry))) ⌝ }
 {
-    EOM_AT_END
+    let n = image::count_of(s);
+    image::in_zone(s, n as usize)
 }
 
 // End of data of the partition s: 8/00/05, by a command that counts or not.

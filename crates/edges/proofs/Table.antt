@@ -15,7 +15,7 @@ use Rattle.codes.specs.Codes.{tooShort, inMasks, masksHold}
 use Rattle.codes.specs.Fields.{fixedOf, siliOf, transferOf, spaceCodeOf, spaceCountOf, longOf, changesPartition, objectOf, partitionOf, loadOf, formOf, dbdOf, pageOf, pfOf, allocationOf}
 use Rattle.answers.specs.Answers.{first}
 use Rattle.objects.specs.Transfer.{runOf, blocksOf, marksOf, fitting, putFrom}
-use Rattle.commands.specs.Act.{hidden, readVariable, runTells, reading, offered, goesDown, wrote, writing, marking, spaceTells, movement, spacing, targetOf, locateTells, locating, selecting, replyOf, act, eventsOf}
+use Rattle.commands.specs.Act.{eomAtEnd, hidden, readVariable, runTells, reading, offered, goesDown, wrote, writing, marking, spaceTells, movement, spacing, targetOf, locateTells, locating, selecting, replyOf, act, eventsOf}
 use Rattle.commands.specs.Tests.{bytesAsked, fieldError, taken, replyLength, needed, tests}
 use Rattle.commands.specs.Step.{statusOf, keptOf, stopped, acted, unless, step}
 use Rattle.commands.specs.Call.{looksAt, seenOf, seen, inserted, laidOut, applied, stepOf, called, commandCall}
@@ -28,7 +28,7 @@ unfolding Edges cases bare64 full ten tenAnd7 tenAnd8 E be bytes over signed wra
     count flags protected directory size entry topBit low31 endAt follows ordered rightLength sound objectAt upto objects retitle entryOf enter occur occurs cleared blank
     fits32 senseBytes reports told emptySense attentionSense decodeOf encodeOf attentionKnown emptyHanded placed wellFormed wellRecord withSense tooShort inMasks masksHold
     fixedOf siliOf transferOf spaceCodeOf spaceCountOf longOf changesPartition objectOf partitionOf loadOf formOf dbdOf pageOf pfOf allocationOf
-    first runOf blocksOf marksOf fitting putFrom hidden readVariable runTells reading offered goesDown wrote writing marking spaceTells movement spacing targetOf locateTells locating selecting replyOf act eventsOf
+    first runOf blocksOf marksOf fitting putFrom eomAtEnd hidden readVariable runTells reading offered goesDown wrote writing marking spaceTells movement spacing targetOf locateTells locating selecting replyOf act eventsOf
     bytesAsked fieldError taken replyLength needed tests statusOf keptOf stopped acted unless step looksAt seenOf seen inserted laidOut applied stepOf called commandCall
 edges = (refl, (refl, (refl, (refl, (refl, (refl, (refl, (refl, (refl, (refl, (refl, (refl, (refl, (refl, (refl, tt)))))))))))))))
 
@@ -38,6 +38,6 @@ unfolding Traps traps full guarded ten E be bytes over signed wrapped bytesIn fi
     count flags protected directory size entry topBit low31 endAt follows ordered rightLength sound objectAt upto objects retitle entryOf enter occur occurs cleared blank
     fits32 senseBytes reports told emptySense attentionSense decodeOf encodeOf attentionKnown emptyHanded placed wellFormed wellRecord withSense tooShort inMasks masksHold
     fixedOf siliOf transferOf spaceCodeOf spaceCountOf longOf changesPartition objectOf partitionOf loadOf formOf dbdOf pageOf pfOf allocationOf
-    first runOf blocksOf marksOf fitting putFrom hidden readVariable runTells reading offered goesDown wrote writing marking spaceTells movement spacing targetOf locateTells locating selecting replyOf act eventsOf
+    first runOf blocksOf marksOf fitting putFrom eomAtEnd hidden readVariable runTells reading offered goesDown wrote writing marking spaceTells movement spacing targetOf locateTells locating selecting replyOf act eventsOf
     bytesAsked fieldError taken replyLength needed tests statusOf keptOf stopped acted unless step looksAt seenOf seen inserted laidOut applied stepOf called commandCall protect reflag blockLimits modeData listLengthKnown headerRight descriptorRight listRight shortPosition longPosition unloaded loadedAnew
 trapped = (refl, (refl, (refl, (refl, (refl, (refl, (refl, (refl, (refl, (refl, (refl, (refl, (refl, (refl, (refl, (refl, (refl, (refl, (refl, (refl, (refl, (refl, (refl, (refl, (refl, (refl, (refl, (refl, (refl, (refl, (refl, (refl, (refl, (refl, (refl, (refl, (refl, (refl, (refl, (refl, (refl, (refl, (refl, (refl, (refl, (refl, tt))))))))))))))))))))))))))))))))))))))))))))))

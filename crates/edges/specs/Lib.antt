@@ -1,3 +1,4 @@
 pub mod Cases
 pub mod Traps
 pub mod Sixteen
+pub mod EndOfData

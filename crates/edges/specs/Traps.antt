@@ -96,10 +96,10 @@ traps =
     -- nothing written and a move to end of data are GOOD inside the zone
     turns (loaded 0 1 0 nothingKept) (six 0x0A 0 0) full (goodAnswer 0) (loaded 0 1 0 nothingKept) ∷
     turns (loaded 0 0 0 nothingKept) (six 0x11 3 5) full (goodAnswer 0) (loaded 0 1 0 nothingKept) ∷
-    -- end of data inside the zone: READ, SPACE and LOCATE tell 8/00/05 there, EOM 0
-    alone (loaded 0 1 0 nothingKept) (six 0x08 0 1) full [] (zeros 1) (check 0) (loaded 0 1 0 (sense18 0xF0 0x08 1 0x00 0x05)) full (zeros 1) ∷
-    turns (loaded 0 1 0 nothingKept) (six 0x11 0 1) full (check 0) (loaded 0 1 0 (sense18 0xF0 0x08 1 0x00 0x05)) ∷
-    turns (loaded 0 0 0 nothingKept) (locate 2) full (check 0) (loaded 0 1 0 (plain 8 0x00 0x05)) ∷
+    -- end of data inside the zone: READ, SPACE and LOCATE tell 8/00/05 there, with EOM (Q-2)
+    alone (loaded 0 1 0 nothingKept) (six 0x08 0 1) full [] (zeros 1) (check 0) (loaded 0 1 0 (sense18 0xF0 0x48 1 0x00 0x05)) full (zeros 1) ∷
+    turns (loaded 0 1 0 nothingKept) (six 0x11 0 1) full (check 0) (loaded 0 1 0 (sense18 0xF0 0x48 1 0x00 0x05)) ∷
+    turns (loaded 0 0 0 nothingKept) (locate 2) full (check 0) (loaded 0 1 0 (plain 0x48 0x00 0x05)) ∷
     -- SILI hides an unequal length, a short block or, with block length 0, a long one; not a long one with another block length
     alone (loaded 0 0 0 nothingKept) (six 0x08 2 5) E [] (replicate 5 9) (goodAnswer 3) (loaded 0 1 0 nothingKept) E (1 ∷ 2 ∷ 3 ∷ 9 ∷ 9 ∷ []) ∷
     alone (loaded 0 0 7 nothingKept) (six 0x08 2 5) E [] (replicate 5 9) (goodAnswer 3) (loaded 0 1 7 nothingKept) E (1 ∷ 2 ∷ 3 ∷ 9 ∷ 9 ∷ []) ∷

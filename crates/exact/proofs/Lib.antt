@@ -1,7 +1,9 @@
 pub mod Determined
 pub mod House
 pub mod Tells
+pub mod Ruled
 pub mod Senses
+pub mod EndOfData
 pub mod Carried
 pub mod Small
 pub mod Numbers

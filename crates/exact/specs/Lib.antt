@@ -3,3 +3,4 @@ pub mod Residues
 pub mod Senses
 pub mod Carried
 pub mod Numbers
+pub mod EndOfData

@@ -21,7 +21,7 @@ use Rattle.house.specs.Mount.{rightLengths, bothSound, mountFault, mountCall}
 use Rattle.commands.specs.Parameters.{listLengthKnown, headerRight, descriptorRight, listRight}
 use Rattle.objects.specs.Transfer.{blocksOf, marksOf, fitting, putFrom}
 use Rattle.answers.specs.Answers.{first}
-use Rattle.commands.specs.Act.{hidden, readVariable, reading, offered, goesDown, wrote, writing, marking, spaceTells, movement, spacing, selecting, replyOf, act, eventsOf}
+use Rattle.commands.specs.Act.{eomAtEnd, hidden, readVariable, reading, offered, goesDown, wrote, writing, marking, spaceTells, movement, spacing, selecting, replyOf, act, eventsOf}
 use Rattle.commands.specs.Tests.{bytesAsked, fieldError, taken, replyLength, needed, tests}
 use Rattle.commands.specs.Step.{statusOf, keptOf, stopped, acted, unless, step}
 use Rattle.commands.specs.Call.{looksAt, seenOf, seen, inserted, laidOut, applied, stepOf, called, commandTests, commandCall}
@@ -34,7 +34,7 @@ use Rattle.history.specs.Lives.{uses, oneDrive, severalDrives, Computed}
 
 pub computed : Computed
 unfolding blank64 uses oneDrive severalDrives AllHarmless callsOf recordUsed after caused events ends past metOf readings partsOf
-    hidden readVariable reading
+    eomAtEnd hidden readVariable reading
     be bytes over signed wrapped fits32 bytesIn filemarksIn M.walk M.before M.ahead M.astern M.space M.residue M.toEndOfData M.toObject
     count flags protected directory size entry topBit low31 endAt follows ordered rightLength sound objectAt upto objects retitle entryOf enter occur occurs cleared blank protect reflag
     blankCall faultOf protectCall rightLengths bothSound mountFault mountCall senseBytes reports told emptySense attentionSense

@@ -10,9 +10,9 @@ use lib.ListN.{length, take, length-take}
 use Rattle.words.specs.Words.{bytes}
 use Rattle.objects.specs.Object.{filemarksIn}
 use Rattle.objects.proofs.Count.{filemarks-le}
-use Rattle.image.specs.Image.{count, sound, objects, room, zone, filemarksBefore}
+use Rattle.image.specs.Image.{count, sound, objects, zone, filemarksBefore}
 use Rattle.image.proofs.Facts.{sound-parts}
-use Rattle.image.proofs.Objects.{end-bytes, filemarks-before}
+use Rattle.image.proofs.Objects.{filemarks-before}
 use Rattle.record.specs.declared.drive.Drive.{Drive}
 use Rattle.codes.specs.declared.operation.Operation.the-variants.{ReadPosition}
 use Rattle.codes.specs.Fields.{formOf}
@@ -20,6 +20,7 @@ use Rattle.commands.specs.Parameters.{shortPosition, longPosition}
 use Rattle.deeds.specs.declared.deeds.Left.{Left}
 use Rattle.commands.specs.Act.{Seen, carrying, good, zoneAt, shortForm, replyOf, act}
 use Rattle.commands.specs.Call.{seenOf}
+use Rattle.commands.proofs.Zone.{zone-seen}
 use Rattle.deeds.specs.Left.{leftBy}
 
 -- no more filemarks than objects
@@ -27,11 +28,6 @@ pub filemarks-fit : (s : List ℕ) → sound s ≡ true → (n m : ℕ) → n �
 filemarks-fit s h n m g e =
     let k = sound-parts s h in
     omega (arith, e, filemarks-before s n g, filemarks-le (take n (objects s)), length-take n (objects s), k .dir-is, k .most)
-
--- the zone, from the objects alone
-zone-seen : (s : List ℕ) → sound s ≡ true → (n : ℕ) → n ≤ count s → zone s n ≡ zoneAt (seenOf s) n
-unfolding zone room seenOf
-zone-seen s h n g = rw (end-bytes s (sound-parts s h) n g) refl
 
 short-length : (p n : ℕ) (z : Bool) → length (shortPosition p n z) ≡ 20
 unfolding shortPosition bytes

@@ -1,0 +1,157 @@
+-- An act by another rule for EOM at end of data: the same, or both meet end of data and differ in what the rule says of that bit.
+-- Assumes nothing.
+use Prim.Native.Nat.{ℕ, suc, _+_}
+use native.Mathlib.Omega.{arith}
+use mathlib.Core.Path.{_≡_, refl, ap, _∙_}
+use mathlib.Core.Bool.{Bool, true, false, cond, _||_}
+use mathlib.Core.Option.{Option, none, some}
+use mathlib.Core.List.{List, []}
+use lib.Dec.{eqb}
+use lib.IntN.{ℤ, pos, negsuc, subℕ}
+use lib.ListN.{length, take, drop, getElem?}
+use Rattle.objects.specs.Object.{Object, filemark, block, bytesIn}
+use Rattle.objects.specs.Movement as M
+use Rattle.objects.specs.Room.{roomOf, zoneIn}
+use Rattle.objects.specs.Transfer.{Ended, whole, oddLength, atFilemark, atEnd, Run, runOf}
+use Rattle.sense.specs.declared.Sense.{Sense}
+use Rattle.sense.specs.Sense.{blankCheck, illegalRequest, invalidListField, unqualified, told, plainly}
+use Rattle.record.specs.declared.drive.Drive.{Drive}
+use Rattle.codes.specs.declared.operation.Operation.{Operation}
+use Rattle.codes.specs.declared.operation.Operation.the-variants.{TestUnitReady, Rewind, RequestSense, ReadBlockLimits, Read, Write, WriteFilemarks, Space, ModeSelect, Erase, ModeSense, LoadUnload, Locate, ReadPosition, Space16, Locate16, NotServed}
+use Rattle.codes.specs.Fields.{fixedOf, transferOf, spaceCodeOf, spaceCountOf, spaceCount16Of, objectOf, allocationOf}
+use Rattle.commands.specs.Parameters.{wholeLength, listRight, newLength}
+use Rattle.commands.specs.Act.{Seen, Deed, good, checked, carrying, at, atPartition, endTold, oddMet, warned, overflowed, hidden, readRun, readVariable, runTells, reading, goesDown, wrote, writing, marking, spaceTells, movement, spacing, targetOf, destination16, locateTells, locating, selecting, withLength, act}
+use Rattle.exact.specs.EndOfData.{mayMeetEnd, endToldBy, readVariableBy, runTellsBy, readRunBy, readingBy, spaceTellsBy, spacingBy, locateTellsBy, locatingBy, actBy}
+
+abbrev pub deed : Drive → Option Sense → List ℕ → ℕ → Deed
+deed d t b n = record { drive = d; tells = t; received = b; carried = n }
+
+-- ---- what is told elsewhere has another key
+
+abbrev pub Elsewhere : Option Sense → Type 0
+Elsewhere t = (s : Sense) → t ≡ some s → s .key ≡ blankCheck → ⊥
+
+silent : Elsewhere none
+silent s e k = let z : _≡_ {A = ℕ} 0 1 = cc in omega arith
+
+another : (c f e i : Bool) (key asc ascq : ℕ) (z : ℤ) → (key ≡ blankCheck → ⊥) → Elsewhere (some (told c f e i key asc ascq z))
+unfolding told
+another c f e i key asc ascq z h s q k = let y : told c f e i key asc ascq z ≡ s = cc in h (ap (λ (t : Sense). t .key) y ∙ k)
+
+module _ (d : Drive) (cmd sent : List ℕ) (v : Seen) where
+  wrote-elsewhere : (n : ℕ) (os : List Object) (z : ℤ) → Elsewhere ((wrote d v n os z) .tells)
+  unfolding wrote
+  wrote-elsewhere n os z = go (eqb (length os) n) (zoneIn (v .size) (roomOf (v .size) (d .position + length os) (bytesIn (take (d .position) (v .objects)) + bytesIn os)))
+    where
+      there : Drive
+      there = at d (d .position + length os)
+
+      go : (t w : Bool) → Elsewhere ((cond t (cond w (checked there warned) (good there)) (checked there (overflowed z))) .tells)
+      go true true = another _ _ _ _ _ _ _ _ (λ e. omega arith)
+      go true false = silent
+      go false w = another _ _ _ _ _ _ _ _ (λ e. omega arith)
+
+  write-elsewhere : Elsewhere ((writing d cmd sent v) .tells)
+  unfolding writing
+  write-elsewhere = go (eqb (transferOf cmd) 0) (fixedOf cmd) (goesDown Write d cmd sent v)
+    where
+      go : (z f : Bool) (os : List Object) → Elsewhere ((cond z (good d) (carrying (bytesIn os) (cond f (wrote d v (transferOf cmd) os (subℕ (transferOf cmd) (length os))) (wrote d v 1 os (subℕ (transferOf cmd) (bytesIn os)))))) .tells)
+      go true f os = silent
+      go false true os = wrote-elsewhere _ _ _
+      go false false os = wrote-elsewhere _ _ _
+
+  marks-elsewhere : Elsewhere ((marking d cmd sent v) .tells)
+  unfolding marking
+  marks-elsewhere = go (eqb (transferOf cmd) 0) (goesDown WriteFilemarks d cmd sent v)
+    where
+      go : (z : Bool) (os : List Object) → Elsewhere ((cond z (good d) (wrote d v (transferOf cmd) os (subℕ (transferOf cmd) (length os)))) .tells)
+      go true os = silent
+      go false os = wrote-elsewhere _ _ _
+
+  select-elsewhere : Elsewhere ((selecting d cmd sent) .tells)
+  unfolding selecting
+  select-elsewhere = go (eqb (allocationOf cmd) 0) (listRight (allocationOf cmd) sent) (allocationOf cmd) (cond (eqb (allocationOf cmd) wholeLength) (withLength d (newLength sent)) d)
+    where
+      go : (z r : Bool) (n : ℕ) (e : Drive) → Elsewhere ((cond z (good d) (cond r (carrying n (good e)) (checked d (plainly illegalRequest invalidListField unqualified)))) .tells)
+      go true r n e = silent
+      go false true n e = silent
+      go false false n e = another _ _ _ _ _ _ _ _ (λ e. omega arith)
+
+-- ---- the act as it is, and by the rule
+
+pub data Ending (rule : Seen → Bool) (o : Operation) (v : Seen) (e e′ : Deed) : Type 0 where
+  elsewhere : Elsewhere (e .tells) → e′ ≡ e → Ending rule o v e e′
+  at-end : mayMeetEnd o ≡ true → (d : Drive) (counts : Bool) (z : ℤ) (b : List ℕ) (n : ℕ) → e ≡ deed d (some (endTold counts v z)) b n → e′ ≡ deed d (some (endToldBy rule counts v z)) b n → Ending rule o v e e′
+
+module _ (rule : Seen → Bool) (d : Drive) (cmd sent : List ℕ) (v : Seen) where
+  run-ends : (w : Ended) (z : ℤ) (e : Drive) (b : List ℕ) (n : ℕ) → Ending rule Read v (deed e (runTells v w z) b n) (deed e (runTellsBy rule v w z) b n)
+  unfolding runTells runTellsBy
+  run-ends whole z e b n = elsewhere silent refl
+  run-ends oddLength z e b n = elsewhere (another _ _ _ _ _ _ _ _ (λ q. omega arith)) refl
+  run-ends atFilemark z e b n = elsewhere (another _ _ _ _ _ _ _ _ (λ q. omega arith)) refl
+  run-ends atEnd z e b n = at-end refl e true z b n refl refl
+
+  variable-ends : (x : Option Object) → Ending rule Read v (readVariable d cmd v x) (readVariableBy rule d cmd v x)
+  unfolding readVariable readVariableBy
+  variable-ends none = at-end refl d true (pos (transferOf cmd)) [] 0 refl refl
+  variable-ends (some filemark) = elsewhere (another _ _ _ _ _ _ _ _ (λ q. omega arith)) refl
+  variable-ends (some (block bs)) = elsewhere (go (eqb (length bs) (transferOf cmd) || hidden d cmd (length bs))) refl
+    where
+      there : Drive
+      there = at d (suc (d .position))
+
+      go : (t : Bool) → Elsewhere ((cond t (good there) (checked there (oddMet (subℕ (transferOf cmd) (length bs))))) .tells)
+      go true = silent
+      go false = another _ _ _ _ _ _ _ _ (λ q. omega arith)
+
+  read-ends : Ending rule Read v (reading d cmd v) (readingBy rule d cmd v)
+  unfolding reading readingBy
+  read-ends = go (eqb (transferOf cmd) 0) (fixedOf cmd) (runOf (d .«block_length») (transferOf cmd) (drop (d .position) (v .objects)))
+    where
+      go : (z f : Bool) (r : Run) → Ending rule Read v
+          (cond z (good d) (cond f (readRun d v (transferOf cmd) r) (readVariable d cmd v (getElem? (v .objects) (d .position)))))
+          (cond z (good d) (cond f (readRunBy rule d v (transferOf cmd) r) (readVariableBy rule d cmd v (getElem? (v .objects) (d .position)))))
+      go true f r = elsewhere silent refl
+      go false true r = run-ends (r .why) _ _ _ _
+      go false false r = variable-ends (getElem? (v .objects) (d .position))
+
+  space-ends : (o : Operation) → mayMeetEnd o ≡ true → (code : ℕ) (k : ℤ) → Ending rule o v (spacing d code k v) (spacingBy rule d code k v)
+  unfolding spacing spacingBy spaceTells spaceTellsBy
+  space-ends o h code k = go (movement code k (d .position) (v .objects)) ((movement code k (d .position) (v .objects)) .why) k
+    where
+      go : (m : M.Move) (w : M.Why) (k : ℤ) → Ending rule o v
+          (deed (at d (m .to)) (spaceTells v k (record { to = m .to; moved = m .moved; why = w; distance = m .distance })) [] 0)
+          (deed (at d (m .to)) (spaceTellsBy rule v k (record { to = m .to; moved = m .moved; why = w; distance = m .distance })) [] 0)
+      go m M.done k = elsewhere silent refl
+      go m M.marked k = elsewhere (another _ _ _ _ _ _ _ _ (λ q. omega arith)) refl
+      go m M.edge (pos n) = at-end h _ true _ [] 0 refl refl
+      go m M.edge (negsuc n) = elsewhere (another _ _ _ _ _ _ _ _ (λ q. omega arith)) refl
+
+  locate-ends : (o : Operation) → mayMeetEnd o ≡ true → (k : ℕ) (t : M.Destination) → Ending rule o v (locating d k t v) (locatingBy rule d k t v)
+  unfolding locating locatingBy locateTells locateTellsBy
+  locate-ends o h k t = go ((M.locate t (cond (eqb k (d .current)) (d .position) 0) (v .objects)) .why) (atPartition d k ((M.locate t (cond (eqb k (d .current)) (d .position) 0) (v .objects)) .to))
+    where
+      go : (w : M.Why) (e : Drive) → Ending rule o v (deed e (locateTells v w) [] 0) (deed e (locateTellsBy rule v w) [] 0)
+      go M.done e = elsewhere silent refl
+      go M.marked e = elsewhere silent refl
+      go M.edge e = at-end h e false (pos 0) [] 0 refl refl
+
+  pub act-ends : (o : Operation) → Ending rule o v (act o d cmd sent v) (actBy rule o d cmd sent v)
+  unfolding act actBy
+  act-ends TestUnitReady = elsewhere silent refl
+  act-ends Rewind = elsewhere silent refl
+  act-ends RequestSense = elsewhere silent refl
+  act-ends ReadBlockLimits = elsewhere silent refl
+  act-ends Read = read-ends
+  act-ends Write = elsewhere (write-elsewhere d cmd sent v) refl
+  act-ends WriteFilemarks = elsewhere (marks-elsewhere d cmd sent v) refl
+  act-ends Space = space-ends Space refl (spaceCodeOf cmd) (spaceCountOf cmd)
+  act-ends ModeSelect = elsewhere (select-elsewhere d cmd sent v) refl
+  act-ends Erase = elsewhere silent refl
+  act-ends ModeSense = elsewhere silent refl
+  act-ends LoadUnload = elsewhere silent refl
+  act-ends Locate = locate-ends Locate refl (targetOf Locate d cmd) (M.object (objectOf cmd))
+  act-ends ReadPosition = elsewhere silent refl
+  act-ends Space16 = space-ends Space16 refl (spaceCodeOf cmd) (spaceCount16Of cmd)
+  act-ends Locate16 = locate-ends Locate16 refl (targetOf Locate16 d cmd) (destination16 cmd)
+  act-ends NotServed = elsewhere silent refl
