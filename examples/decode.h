@@ -45,6 +45,7 @@ enum condition {
     POWER_ON = CONDITION(UNIT_ATTENTION, RESET_OCCURRED),
     WRITE_PROTECTED = CONDITION(DATA_PROTECT, PROTECTED),
     END_OF_DATA = CONDITION(BLANK_CHECK, AT_END_OF_DATA),
+    END_OF_DATA_IN_WARNING = CONDITION(STORMTOGGLE_EOM | BLANK_CHECK, AT_END_OF_DATA),
     NOT_ALL_WRITTEN = CONDITION(STORMTOGGLE_EOM | VOLUME_OVERFLOW, AT_END_OF_PARTITION)
 };
 
@@ -65,6 +66,14 @@ static inline unsigned code_of(const uint8_t *sense)
 static inline uint32_t condition_of(const uint8_t *sense)
 {
     return CONDITION((uint32_t)sense[STORMTOGGLE_SENSE_KEY], code_of(sense));
+}
+
+/* Whether the end of the partition is near: EOM by a command that wrote, or by READ, SPACE or LOCATE at end of data. At
+ * the beginning EOM says that the tape begins there, and nothing of its end. */
+static inline int is_near_end(const uint8_t *sense)
+{
+    unsigned code = code_of(sense);
+    return (sense[STORMTOGGLE_SENSE_KEY] & STORMTOGGLE_EOM) && (code == AT_END_OF_PARTITION || code == AT_END_OF_DATA);
 }
 
 /* The information is 32 bits in two's complement. A residue that they do not hold is not valid, and the information

@@ -239,13 +239,27 @@ static void write_batch(struct drive *d, unsigned first)
     write_fixed(d, batch, BATCH);
 }
 
+/* A host plans from EOM at end of data whether a partition takes more, without writing to it: it asks for an object
+ * that is never there. The bit tells of the partition that LOCATE goes to, wherever it comes from. */
+static void plan(struct drive *d, uint8_t partition, enum condition condition, long objects)
+{
+    locate(d, partition, UINT32_MAX);
+    expect(d, condition, 0, partition, objects);
+    int is_full = is_near_end(d->record + STORMTOGGLE_RECORD_SENSE);
+    must_equal(d, "whether its end is near", is_full, condition == END_OF_DATA_IN_WARNING);
+    printf("    planned: %s\n", is_full ? "change the cartridge before more goes to this partition" : "it takes more");
+}
+
 /* At early warning all is written; at overflow the residue tells how many tiles are not. A filemark still fits. */
 static void fill(struct drive *d)
 {
     uint8_t position[POSITION_LENGTH];
     puts("\nA fourth cycle, to early warning and on to volume overflow");
+    plan(d, TILES, END_OF_DATA, 9);
     set_block_length(d, TILE);
-    expect_good(d, TILES, 4);
+    expect_good(d, TILES, 9);
+    rewind_tape(d);
+    expect_good(d, TILES, 0);
     space(d, TO_END_OF_DATA, 0);
     expect_good(d, TILES, 9);
     write_batch(d, 1);
@@ -267,12 +281,25 @@ static void fill(struct drive *d)
     must_equal(d, "the number of filemarks told", number_at(position + POSITION_FILEMARKS), CYCLES + 1);
 }
 
+/* READ and SPACE tell the same at end of data; SPACE to end of data meets nothing, and is GOOD. */
+static void plan_the_change(struct drive *d)
+{
+    uint8_t tile[TILE];
+    puts("\nA cartridge change planned from EOM at end of data");
+    plan(d, INDEX, END_OF_DATA, 2);
+    plan(d, TILES, END_OF_DATA_IN_WARNING, 21);
+    read_block(d, tile, TILE);
+    expect(d, END_OF_DATA_IN_WARNING, TILE, TILES, 21);
+    space(d, BLOCKS, 1);
+    expect(d, END_OF_DATA_IN_WARNING, 1, TILES, 21);
+    space(d, TO_END_OF_DATA, 0);
+    expect_good(d, TILES, 21);
+}
+
 static void close_the_day(struct drive *d)
 {
     uint8_t tile[TILE];
     puts("\nThe last tile read, the tiles protected, and the cartridge out");
-    locate(d, TILES, 99);
-    expect(d, END_OF_DATA, 0, TILES, 21);
     locate(d, TILES, 19);
     expect_good(d, TILES, 19);
     read_block(d, tile, TILE);
@@ -323,6 +350,7 @@ int main(int count, char **words)
     use_index(&d);
     go_in_sixteen_bytes(&d);
     fill(&d);
+    plan_the_change(&d);
     close_the_day(&d);
     for (int i = TILES; i <= INDEX; i++)
         if (msync(d.tape[i].image, d.tape[i].length, MS_SYNC) != 0 || munmap(d.tape[i].image, d.tape[i].length) != 0)

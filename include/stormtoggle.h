@@ -76,7 +76,10 @@ enum {
     STORMTOGGLE_SENSE_ASCQ = 13        /* 1 byte */
 };
 
-/* The values of its first byte, and the parts of the byte that has the key. */
+/* The values of its first byte, and the parts of the byte that has the key. EOM comes with end of data (8/00/05), by
+ * READ, SPACE and LOCATE, exactly where position N of the partition in which it is met, LOCATE's target, is in the
+ * early-warning zone; with the end of the partition (00/02), by WRITE and WRITE FILEMARKS; and with the beginning
+ * (0/00/04). */
 enum { STORMTOGGLE_VALID = 0xf0, STORMTOGGLE_NOT_VALID = 0x70 };
 enum { STORMTOGGLE_FILEMARK = 0x80, STORMTOGGLE_EOM = 0x40, STORMTOGGLE_ILI = 0x20, STORMTOGGLE_KEY = 0x0f };
 

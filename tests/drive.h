@@ -13,6 +13,8 @@
  * on from byte K, wherever the last one ended. All cartridges before UNSOUND are sound, and none from it on. */
 enum cartridge {
     NONE, E, GUARDED, BLANK, BLANK_65, TEN, FULL, MIXED, FILES, PARTED, BIG,
+    LEFT_3, LEFT_2, MARKED_3, MARKED_2, GUARDED_3, GUARDED_2, LEFT_4_OF_65, LEFT_3_OF_65, LEFT_4_OF_80, LEFT_3_OF_80,
+    BIG_BEFORE, BIG_IN,
     UNSOUND, OVERLAPPING, BLOCK_OF_0, FILEMARK_AT_1, FILEMARKS_AT_5
 };
 
@@ -34,6 +36,18 @@ static const struct tape {
     [FILES] = {SHORTEST, 0, 0xee, "b1 b2 f b3 f"},
     [PARTED] = {SHORTEST, 0, 0xee, "b3 f b2"},
     [BIG] = {2 * LARGEST_BLOCK + SHORTEST, 0, 0xee, "B"},
+    [LEFT_3] = {SHORTEST, 0, 0xee, "b41"},
+    [LEFT_2] = {SHORTEST, 0, 0xee, "b42"},
+    [MARKED_3] = {SHORTEST, 0, 0xee, "b37 f"},
+    [MARKED_2] = {SHORTEST, 0, 0xee, "b38 f"},
+    [GUARDED_3] = {SHORTEST, FLAG_PROTECTED, 0xee, "b41"},
+    [GUARDED_2] = {SHORTEST, FLAG_PROTECTED, 0xee, "b42"},
+    [LEFT_4_OF_65] = {SHORTEST + 1, 0, 0xee, "b41"},
+    [LEFT_3_OF_65] = {SHORTEST + 1, 0, 0xee, "b42"},
+    [LEFT_4_OF_80] = {SHORTEST + 16, 0, 0xee, "b56"},
+    [LEFT_3_OF_80] = {SHORTEST + 16, 0, 0xee, "b57"},
+    [BIG_BEFORE] = {2 * LARGEST_BLOCK + SHORTEST, 0, 0xee, "B b57381"},
+    [BIG_IN] = {2 * LARGEST_BLOCK + SHORTEST, 0, 0xee, "B b57382"},
     [UNSOUND] = {E_BYTES, 2 * FLAG_PROTECTED, 0x00, "b3 f"},
     [OVERLAPPING] = {SHORTEST, 0, 0xee, "b3 f @0 b2"},
     [BLOCK_OF_0] = {SHORTEST, 0, 0xee, "b3 b0 f"},

@@ -2,6 +2,7 @@
 #define _DEFAULT_SOURCE
 #include "drive.h"
 #include "edges_data.h"
+#include "edges_ends.h"
 #include "edges_long.h"
 #include "edges_order.h"
 
@@ -120,6 +121,57 @@ static const struct edge life[] = {
      .data = BYTES(0x0b, 0, 0, 8, 0, 0, 0, 0, 0, 0, 0, 2)},
 };
 
+/* ---- another's, at the end of its second partition, which moves into the zone and out of it again */
+
+/* "Set it exactly when position N of the partition is in the zone": of 64 bytes, ten filemarks behind a block of two
+ * leave a room of 2, and behind a block of one they leave 3. What was erased or written over has no say. */
+static const struct edge life_at_the_end[] = {
+    {.what = "the mount", .command = SIX(TEST_UNIT_READY, 0, 0), .after = TWO(0, 0), .told = PLAIN(TOLD_MOUNTED)},
+    {.what = "past the end of the blank", .command = LOCATE(CP, 1, 1), .after = TWO(1, 0), .told = PAST_END},
+    {.what = "READ of the blank", .command = SIX(READ, 0, 4), .after = TWO(1, 0),
+     .told = RESIDUE(TOLD_END_OF_DATA, 4)},
+    {.what = "WRITE of two bytes", .command = SIX(WRITE, 0, 2), .list = BYTES(8, 9), .after = TWO(1, 1), .carried = 2},
+    {.what = "READ behind them", .command = SIX(READ, 0, 4), .after = TWO(1, 1), .told = RESIDUE(TOLD_END_OF_DATA, 4)},
+    {.what = "ten filemarks into the zone", .command = SIX(WRITE_FILEMARKS, 0, 10), .after = TWO(1, 11),
+     .told = RESIDUE(TOLD_ZONE, 0)},
+    {.what = "READ in the zone", .command = SIX(READ, 0, 4), .after = TWO(1, 11), .told = RESIDUE(TOLD_END_IN_ZONE, 4)},
+    {.what = "its sense", .command = SIX(REQUEST_SENSE, 0, SENSE_BYTES), .after = TWO(1, 11),
+     .data = BYTES(0xf0, 0, 0x48, 0, 0, 0, 4, 0x0a, 0, 0, 0, 0, 0, 5, 0, 0, 0, 0)},
+    {.what = "past the end of E", .command = LOCATE_16(CP | TO_FILE, 2, 0), .after = TWO(0, 2), .told = PAST_END},
+    {.what = "its sense too", .command = SIX(REQUEST_SENSE, 0, SENSE_BYTES), .after = TWO(0, 2),
+     .data = BYTES(0x70, 0, 8, 0, 0, 0, 0, 0x0a, 0, 0, 0, 0, 0, 5, 0, 0, 0, 0)},
+    {.what = "back past the end in the zone", .command = LOCATE(CP, 12, 1), .after = TWO(1, 11),
+     .told = PAST_END_IN_ZONE},
+    {.what = "SPACE back over a filemark", .command = SIX(SPACE, FILEMARKS, -1), .after = TWO(1, 10)},
+    {.what = "SPACE over two", .command = SIX(SPACE, FILEMARKS, 2), .after = TWO(1, 11),
+     .told = RESIDUE(TOLD_END_IN_ZONE, 1)},
+    {.what = "SPACE (16) back over a filemark", .command = SPACE_16(FILEMARKS, -1), .after = TWO(1, 10)},
+    {.what = "ERASE of it", .command = SIX(ERASE, 0, 0), .after = TWO(1, 10)},
+    {.what = "READ where it was", .command = SIX(READ, 0, 4), .after = TWO(1, 10),
+     .told = RESIDUE(TOLD_END_OF_DATA, 4)},
+    {.what = "LOCATE where it was", .command = LOCATE(0, 11, 0), .after = TWO(1, 10), .told = PAST_END},
+    {.what = "a filemark into the zone again", .command = SIX(WRITE_FILEMARKS, 0, 1), .after = TWO(1, 11),
+     .told = RESIDUE(TOLD_ZONE, 0)},
+    {.what = "SPACE (16) of blocks there", .command = SPACE_16(BLOCKS, 1), .after = TWO(1, 11),
+     .told = RESIDUE(TOLD_END_IN_ZONE, 1)},
+    {.what = "REWIND", .command = SIX(REWIND, 0, 0), .after = TWO(1, 0)},
+    {.what = "SPACE (16) of filemarks from 0", .command = SPACE_16(FILEMARKS, POWER_32), .after = TWO(1, 11),
+     .told = NO_RESIDUE(TOLD_END_IN_ZONE)},
+    {.what = "its sense has no residue", .command = SIX(REQUEST_SENSE, 0, SENSE_BYTES), .after = TWO(1, 11),
+     .data = BYTES(0x70, 0, 0x48, 0, 0, 0, 0, 0x0a, 0, 0, 0, 0, 0, 5, 0, 0, 0, 0)},
+    {.what = "LOCATE (16) to 0", .command = LOCATE_16(TO_OBJECT, 0, 0), .after = TWO(1, 0)},
+    {.what = "WRITE of one byte over all", .command = SIX(WRITE, 0, 1), .list = BYTES(7), .after = TWO(1, 1),
+     .carried = 1},
+    {.what = "SPACE of filemarks behind it", .command = SIX(SPACE, FILEMARKS, 1), .after = TWO(1, 1),
+     .told = RESIDUE(TOLD_END_OF_DATA, 1)},
+    {.what = "ten filemarks to the zone's bound", .command = SIX(WRITE_FILEMARKS, 0, 10), .after = TWO(1, 11)},
+    {.what = "READ on the bound", .command = SIX(READ, 0, 4), .after = TWO(1, 11),
+     .told = RESIDUE(TOLD_END_OF_DATA, 4)},
+    {.what = "LOCATE (16) to the file behind the last", .command = LOCATE_16(CP | TO_FILE, 11, 1), .after = TWO(1, 11),
+     .told = PAST_END},
+    {.what = "unload", .command = SIX(LOAD_UNLOAD, 0, 0), .after = EMPTY(0)},
+};
+
 static void live(uint8_t *record, uint8_t *p0, uint8_t *p1, const struct edge *step)
 {
     uint8_t want[RECORD_BYTES], data[36] = {0}, *received = lend(data, sizeof data);
@@ -135,21 +187,17 @@ static void live(uint8_t *record, uint8_t *p0, uint8_t *p1, const struct edge *s
     cases_run++;
 }
 
-/* The second partition is a blank in the end with one block, and the filemark's entry left behind. */
-static void one_life(void)
+/* On E and a blank; the second partition is then as wanted. */
+static void live_through(const struct edge *steps, size_t count, const uint8_t *want)
 {
-    static const uint8_t written[] = {8, 9};
-    uint8_t blank[SHORTEST] = {0}, want[SHORTEST], zeros[RECORD_BYTES] = {0};
+    uint8_t blank[SHORTEST] = {0}, zeros[RECORD_BYTES] = {0};
     uint8_t *record = lend(zeros, RECORD_BYTES), *p0 = lend(example_e, E_BYTES), *p1;
     lay_trailer(blank, sizeof blank, 0, 0);
     p1 = lend(blank, sizeof blank);
-    memcpy(want, blank, sizeof want);
-    put_objects(want, sizeof want, 0, "b2 f", written);
-    lay_trailer(want, sizeof want, 1, 0);
     expect_equal(stormtoggle_fresh(record, RECORD_BYTES), DONE, "fresh in a life");
     expect_equal(stormtoggle_mount(record, RECORD_BYTES, p0, E_BYTES, p1, SHORTEST), DONE, "mount in a life");
-    for (size_t i = 0; i < COUNT(life); i++)
-        live(record, p0, p1, &life[i]);
+    for (size_t i = 0; i < count; i++)
+        live(record, p0, p1, &steps[i]);
     expect_equal(stormtoggle_mount(record, RECORD_BYTES, p0, E_BYTES, p1, SHORTEST), DONE, "mount after an unload");
     expect_equal(get32(record + STORMTOGGLE_RECORD_BLOCK_LENGTH), 0, "block length after a mount");
     expect_bytes(p0, example_e, E_BYTES, "partition 0 after a life");
@@ -157,6 +205,21 @@ static void one_life(void)
     take_back(p1, SHORTEST);
     take_back(p0, E_BYTES);
     take_back(record, RECORD_BYTES);
+}
+
+/* In the end the first life leaves one block, and the filemark's entry behind it; the other one a block of one byte,
+ * and behind it the second byte of the block that it is written over. */
+static void two_lives(void)
+{
+    static const uint8_t written[] = {8, 9}, written_over[] = {7};
+    uint8_t want[SHORTEST] = {0};
+    put_objects(want, sizeof want, 0, "b2 f", written);
+    lay_trailer(want, sizeof want, 1, 0);
+    live_through(life, COUNT(life), want);
+    memset(want, 0, sizeof want);
+    put_objects(want, sizeof want, 0, "b2", written);
+    put_objects(want, sizeof want, 0, "b1 f10", written_over);
+    live_through(life_at_the_end, COUNT(life_at_the_end), want);
 }
 
 /* The cases' E is the document's, and exactly the cartridges before UNSOUND are sound. */
@@ -182,7 +245,8 @@ int main(void)
     order_of_tests();
     data_and_movement();
     long_movement();
-    one_life();
+    ends_of_data();
+    two_lives();
     printf("%lu cases\n", cases_run);
     return tally();
 }

@@ -19,6 +19,7 @@
 #define NO_RESIDUE(number) PLAIN(number)
 
 #define PAST_END PLAIN(TOLD_END_OF_DATA)
+#define PAST_END_IN_ZONE PLAIN(TOLD_END_IN_ZONE)
 
 /* ---- LOCATE (16) to an object */
 
@@ -31,8 +32,8 @@ static const struct edge objects_located[] = {
     {"LOCATE (16) to object 0 of a blank", BLANK, LOCATE_16(TO_OBJECT, 0, 0), AT(0), .after = AT(0)},
     {"LOCATE (16) to object 1 of a blank", BLANK, LOCATE_16(TO_OBJECT, 1, 0), AT(0), .after = AT(0), .told = PAST_END},
     {"LOCATE (16) to N, in the zone", FULL, LOCATE_16(TO_OBJECT, 1, 0), AT(0), .after = AT(1)},
-    {"LOCATE (16) above N, in the zone, tells no EOM", FULL, LOCATE_16(TO_OBJECT, 2, 0), AT(0), .after = AT(1),
-     .told = PAST_END},
+    {"LOCATE (16) above N, in the zone, tells EOM", FULL, LOCATE_16(TO_OBJECT, 2, 0), AT(0), .after = AT(1),
+     .told = PAST_END_IN_ZONE},
     {"LOCATE (16) with IMMED", E, LOCATE_16(TO_OBJECT | IMMED, 1, 0), AT(2), .after = AT(1)},
     {"LOCATE (16) with IMMED, above N", E, LOCATE_16(TO_OBJECT | IMMED, 9, 0), AT(0), .after = AT(2), .told = PAST_END},
     /* Identifiers that are N or less by their low bits alone. */
@@ -78,7 +79,7 @@ static const struct edge files_located[] = {
     {"LOCATE (16) to file 0 of a blank", BLANK, LOCATE_16(TO_FILE, 0, 0), AT(0), .after = AT(0)},
     {"LOCATE (16) to file 1 of a blank", BLANK, LOCATE_16(TO_FILE, 1, 0), AT(0), .after = AT(0), .told = PAST_END},
     {"LOCATE (16) to file 1 without filemarks, in the zone", FULL, LOCATE_16(TO_FILE, 1, 0), AT(0), .after = AT(1),
-     .told = PAST_END},
+     .told = PAST_END_IN_ZONE},
     {"LOCATE (16) to a file with IMMED", MIXED, LOCATE_16(TO_FILE | IMMED, 1, 0), AT(7), .after = AT(2)},
     {"LOCATE (16) to a file of a protected partition", GUARDED, LOCATE_16(TO_FILE, 1, 0), AT(0), .after = AT(2)},
 };
@@ -154,8 +155,8 @@ static const struct edge spaced[] = {
      .told = RESIDUE(TOLD_FILEMARK, 1)},
     {"SPACE (16) blocks 1 at end of data", E, SPACE_16(BLOCKS, 1), AT(2), .after = AT(2),
      .told = RESIDUE(TOLD_END_OF_DATA, 1)},
-    {"SPACE (16) at end of data in the zone tells no EOM", FULL, SPACE_16(BLOCKS, 1), AT(1), .after = AT(1),
-     .told = RESIDUE(TOLD_END_OF_DATA, 1)},
+    {"SPACE (16) at end of data in the zone tells EOM", FULL, SPACE_16(BLOCKS, 1), AT(1), .after = AT(1),
+     .told = RESIDUE(TOLD_END_IN_ZONE, 1)},
     {"SPACE (16) blocks 2 to end of data", MIXED, SPACE_16(BLOCKS, 2), AT(6), .after = AT(7),
      .told = RESIDUE(TOLD_END_OF_DATA, 1)},
     {"SPACE (16) blocks -3", MIXED, SPACE_16(BLOCKS, -3), AT(5), .after = AT(2)},
@@ -233,8 +234,8 @@ static const struct edge spaced_far[] = {
     {"SPACE (16) blocks 2^32", E, SPACE_16(BLOCKS, POWER_32), AT(0), .after = AT(2), .told = NO_RESIDUE(TOLD_FILEMARK)},
     {"SPACE (16) blocks 2^32 + 1", E, SPACE_16(BLOCKS, POWER_32 + 1), AT(0), .after = AT(2),
      .told = NO_RESIDUE(TOLD_FILEMARK)},
-    {"SPACE (16) blocks 2^32 to the zone, no EOM", FULL, SPACE_16(BLOCKS, POWER_32), AT(0), .after = AT(1),
-     .told = NO_RESIDUE(TOLD_END_OF_DATA)},
+    {"SPACE (16) blocks 2^32 to the zone, EOM", FULL, SPACE_16(BLOCKS, POWER_32), AT(0), .after = AT(1),
+     .told = NO_RESIDUE(TOLD_END_IN_ZONE)},
     {"SPACE (16) blocks -2^32", E, SPACE_16(BLOCKS, -POWER_32), AT(2), .after = AT(1),
      .told = NO_RESIDUE(TOLD_FILEMARK)},
     {"SPACE (16) filemarks -2^32", E, SPACE_16(FILEMARKS, -POWER_32), AT(2), .after = AT(0),

@@ -73,7 +73,8 @@ enum told_number {
     TOLD_ZONE = TOLD(STORMTOGGLE_EOM | KEY_NONE, 0x00, 0x02),           /* "0/00/02, EOM" */
     TOLD_OVERFLOW = TOLD_ZONE | TOLD(KEY_OVERFLOW, 0x00, 0x00),         /* "D/00/02, EOM" */
     TOLD_BEGINNING = TOLD(STORMTOGGLE_EOM | KEY_NONE, 0x00, 0x04),      /* "0/00/04 with EOM" */
-    TOLD_END_OF_DATA = TOLD(KEY_BLANK, 0x00, 0x05),                     /* "8/00/05, EOM 0" */
+    TOLD_END_OF_DATA = TOLD(KEY_BLANK, 0x00, 0x05),                     /* "8/00/05" */
+    TOLD_END_IN_ZONE = TOLD(STORMTOGGLE_EOM | KEY_BLANK, 0x00, 0x05),   /* 02: "exactly when ... in the zone" */
     TOLD_NOT_LOADED = TOLD(KEY_NOT_READY, 0x3a, 0x00),                  /* "nothing loaded (2/3A/00)" */
     TOLD_LIST_LENGTH = TOLD(KEY_ILLEGAL, 0x1a, 0x00),                   /* "List length ..., else 5/1A/00" */
     TOLD_NOT_SERVED = TOLD(KEY_ILLEGAL, 0x20, 0x00),                    /* "operation code not served (5/20/00)" */

@@ -1,8 +1,8 @@
 /* differential.c SEED CALLS [largest]: the library held to the model of documents 01 and 02, call by call, on seeded
  * random work. With the largest, bytes carried and zeroed come near 2^30, which takes 3 GiB of memory. */
 #define _DEFAULT_SOURCE
+#include "near_end.h"
 #include "report.h"
-#include "vast.h"
 
 /* ---- sequences from a blank cartridge */
 
@@ -285,6 +285,8 @@ int main(int arguments, char **argument)
         run_code((uint8_t)round);
         run_bytes_off();
         run_noise();
+        if (round % 8 == 0)
+            run_near_end();
         if (round % 16 == 0)
             run_many_objects();
         if (round % 64 == 0)

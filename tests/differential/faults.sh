@@ -2,7 +2,7 @@
 # faults.sh: shows that tests/differential/differential.c can fail: the run of check finds each slip that is seeded in
 # the model, or, where a store may not go, behind the library; those marked so, the run with the largest work. The slips
 # of the directory's check are shown to tests/differential/damage.c too, and some to it alone; those of the movement by
-# sixteen bytes come last.
+# sixteen bytes come next, and those of end of data last.
 # LIBRARY names another archive than the one that is built here from the sources.
 set -u
 cd "$(dirname "$0")/../.." || exit 2
@@ -88,6 +88,34 @@ slips+=(
 )
 echo "on movement by sixteen bytes"
 for fault in $(seq "$moves" $((${#slips[@]} - 1))); do
+    run_with_slip "$fault" "${slips[fault]}" tests/differential/differential.c 1 500000 || failed=1
+done
+
+# Slips of EOM at end of data, each with the wrong answer that it gives.
+ends=${#slips[@]}
+slips+=(
+    "EOM never told at end of data, as 01 had it, 08h in the zone"
+    "EOM always told at end of data, 48h before the zone"
+    "EOM told by the position at which the command began, not by N"
+    "EOM told by the partition at which LOCATE began, not by its target"
+    "EOM told by partition 0, also where end of data is met in partition 1"
+    "at end of data the zone at most, and not below, a sixteenth, 48h on its bound"
+    "at end of data room x 16 in 32 bits, 48h where much is left"
+    "EOM told where no entry fits any more, and not by the zone"
+    "EOM told with READ alone, 08h with SPACE and LOCATE in the zone"
+    "EOM told with READ and SPACE alone, as 002 has it, 08h with LOCATE in the zone"
+    "EOM told with the short forms alone, 08h with those of sixteen bytes in the zone"
+    "EOM not told with FIXED READ, 08h in the zone"
+    "EOM not told with LOCATE (16) to a file, 08h in the zone"
+    "key 0 with EOM, as at the beginning, 40h in the zone"
+    "no residue with EOM, 70h first and information 0 in the zone"
+    "SPACE to end of data, code 3, tells end of data in the zone and is not GOOD"
+    "LOCATE to N, or to end of data, tells end of data in the zone and is not GOOD"
+    "EOM told with a filemark too that READ meets in the zone, C0h"
+    "EOM told by the target's room and the length of the partition at which LOCATE began"
+)
+echo "on end of data"
+for fault in $(seq "$ends" $((${#slips[@]} - 1))); do
     run_with_slip "$fault" "${slips[fault]}" tests/differential/differential.c 1 500000 || failed=1
 done
 exit "$failed"

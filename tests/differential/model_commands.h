@@ -12,12 +12,14 @@ static inline const struct object *next_block(struct session *s, int64_t residue
 {
     const struct tape *tape = &s->tape[s->current];
     if (s->position == tape->count) {
-        tell(s, TOLD_END_OF_DATA, residue);
+        tell_end_of_data(s, residue);
         return NULL;
     }
     s->position++;
     if (tape->objects[s->position - 1].is_filemark) {
         tell(s, TOLD_FILEMARK, residue);
+        if (FAULT == 74 && in_zone(tape, s->position))
+            s->sense[STORMTOGGLE_SENSE_KEY] |= STORMTOGGLE_EOM;
         return NULL;
     }
     return &tape->objects[s->position - 1];
@@ -254,6 +256,8 @@ static inline void take_fields(struct session *s, const uint8_t *record)
     memcpy(s->sense, nothing_told, SENSE_BYTES);
     s->check_condition = 0;
     s->carried = 0;
+    s->began_in = s->current;
+    s->began_at = s->position;
 }
 
 static inline void lay_fields(const struct session *s, uint8_t *record)

@@ -14,13 +14,14 @@ static inline void space(struct session *s, int64_t count)
     int code = s->block[1];
     if (code == TO_END_OF_DATA) {
         s->position = tape->count;
+        slip_at_end(s, 72);
         return;
     }
     while (moved != count) {
         int step = count > 0 ? 1 : -1;
         const struct object *crossed;
         if (step > 0 && s->position == tape->count) {
-            tell(s, TOLD_END_OF_DATA, count - moved);
+            tell_end_of_data(s, count - moved);
             return;
         }
         if (step < 0 && s->position == 0) {
@@ -48,7 +49,9 @@ static inline void go_to(struct session *s, uint64_t object)
         count &= 0xffff;
     s->position = smaller(object, count);
     if (object > count)
-        tell(s, TOLD_END_OF_DATA, 0);
+        tell_end_of_data(s, 0);
+    else if (object == count)
+        slip_at_end(s, 73);
 }
 
 static inline void locate(struct session *s)

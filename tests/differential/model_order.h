@@ -17,6 +17,8 @@ struct session {
     uint8_t sense[SENSE_BYTES]; /* what is kept after the command */
     int check_condition;
     uint64_t carried;
+    uint8_t began_in; /* the partition and the position at which the command began, for slips alone */
+    uint64_t began_at;
 };
 
 /* ---- the tables */
@@ -136,6 +138,70 @@ static inline void tell_attention(struct session *s)
 {
     tell(s, s->attention == ATTENTION_MOUNTED ? TOLD_MOUNTED : TOLD_FRESH, 0);
     s->attention = ATTENTION_NONE;
+}
+
+/* ---- end of data */
+
+/* The partition by whose N EOM is told: the one in which end of data was met, which for LOCATE is its target. */
+static inline const struct tape *tape_met(const struct session *s)
+{
+    switch (FAULT) {
+    case 60: return &s->tape[s->began_in];
+    case 61: return &s->tape[0];
+    default: return &s->tape[s->current];
+    }
+}
+
+/* Whether N of that partition is in the zone. The slips have another zone here than anywhere else. */
+static inline int end_is_in_zone(const struct session *s)
+{
+    const struct tape *tape = tape_met(s);
+    uint64_t share = room_at(tape, tape->count) * ZONE_SHARE;
+    switch (FAULT) {
+    case 59: return in_zone(&s->tape[s->began_in], s->began_at);
+    case 62: return share <= tape->length - TRAILER;
+    case 63: return (uint32_t)share < tape->length - TRAILER;
+    case 64: return share < ENTRY * ZONE_SHARE;
+    case 75: return share < s->tape[s->began_in].length - TRAILER;
+    default: return in_zone(tape, tape->count);
+    }
+}
+
+/* The slips that tell EOM, or none, whatever the zone; -1 for none of them. */
+static inline int end_is_told_anyway(const struct session *s)
+{
+    uint8_t code = s->block[0];
+    switch (FAULT) {
+    case 57: return 0;
+    case 58: return 1;
+    case 65: return code == READ ? -1 : 0;
+    case 66: return code == LOCATE || code == LOCATE_16 ? 0 : -1;
+    case 67: return code == SPACE_16 || code == LOCATE_16 ? 0 : -1;
+    case 68: return code == READ && is_fixed(s->block) ? 0 : -1;
+    case 69: return code == LOCATE_16 && (s->block[1] & DESTINATION) == TO_FILE ? 0 : -1;
+    default: return -1;
+    }
+}
+
+/* The one place where end of data is told. "Set it exactly when position N of the partition is in the zone. This
+ * replaces the house line on EOM in 01 for all three commands, LOCATE (16) included." */
+static inline void tell_end_of_data(struct session *s, int64_t residue)
+{
+    int told_anyway = end_is_told_anyway(s), has_eom = told_anyway < 0 ? end_is_in_zone(s) : told_anyway;
+    tell(s, has_eom ? TOLD_END_IN_ZONE : TOLD_END_OF_DATA, residue);
+    if (FAULT == 70 && has_eom)
+        s->sense[STORMTOGGLE_SENSE_KEY] = STORMTOGGLE_EOM;
+    if (FAULT == 71 && has_eom) {
+        s->sense[STORMTOGGLE_SENSE_FIRST] = STORMTOGGLE_NOT_VALID;
+        put32(s->sense + STORMTOGGLE_SENSE_INFORMATION, 0);
+    }
+}
+
+/* The slips that tell a GOOD command of the zone at its end. */
+static inline void slip_at_end(struct session *s, int fault)
+{
+    if (FAULT == fault && in_zone(&s->tape[s->current], s->tape[s->current].count))
+        tell_end_of_data(s, 0);
 }
 
 /* ---- the tests before the act */

@@ -83,6 +83,16 @@ static inline uint64_t objects_in(enum slice slice)
     return get32(bytes_of(slice, MODEL) + twins[slice].length - TRAILER_N);
 }
 
+static inline uint64_t end_in(enum slice slice, uint64_t n)
+{
+    return n == 0 ? 0 : end_in_entry(bytes_of(slice, MODEL), twins[slice].length, n - 1);
+}
+
+static inline uint64_t room_in(enum slice slice, uint64_t n)
+{
+    return twins[slice].length - TRAILER - ENTRY * n - end_in(slice, n);
+}
+
 static inline uint64_t filemarks_in(enum slice slice, uint64_t from, uint64_t to)
 {
     uint64_t filemarks = 0;
@@ -92,6 +102,11 @@ static inline uint64_t filemarks_in(enum slice slice, uint64_t from, uint64_t to
 }
 
 /* ---- LOCATE (16) */
+
+static inline int is_end_of_data(uint32_t told)
+{
+    return told == TOLD_END_OF_DATA || told == TOLD_END_IN_ZONE;
+}
 
 static inline int is_there_by_low_bits(uint64_t identifier, uint64_t most)
 {
@@ -131,11 +146,11 @@ static inline void count_locate_16(const uint8_t *block, uint32_t told, const ui
     int is_served = !destination_is_wrong(block), loaded = before[STORMTOGGLE_RECORD_LOADED] == 1;
     switch (told) {
     case TOLD_GOOD: ended[GOES_THERE]++; break;
-    case TOLD_END_OF_DATA: ended[GOES_TO_N]++; break;
+    case TOLD_END_OF_DATA: case TOLD_END_IN_ZONE: ended[GOES_TO_N]++; break;
     case TOLD_NOT_LOADED: ended[IS_NOT_READY]++; break;
     default: ended[is_served ? HAS_NO_PARTITION : loaded ? IS_WRONG_LOADED : IS_WRONG_UNLOADED]++; break;
     }
-    if (told == TOLD_GOOD || told == TOLD_END_OF_DATA)
+    if (told == TOLD_GOOD || is_end_of_data(told))
         count_arrival(block, told == TOLD_GOOD, before, after);
 }
 

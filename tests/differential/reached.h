@@ -2,7 +2,7 @@
 #ifndef REACHED_H
 #define REACHED_H
 
-#include "moves.h"
+#include "ends.h"
 
 enum service { FRESH, BLANK, MOUNT, PROTECT, VIEW, A_COMMAND, SERVICES };
 static const char *const service_names[] = {"fresh", "blank", "mount", "protect", "view", "command"};
@@ -25,7 +25,7 @@ static int sealed[SLICES];
  * one of more than 16 bits. */
 enum width {
     WIDE_N, WIDE_POSITION, WIDE_FILEMARKS, WIDE_FIXED, WIDE_BLOCK, WIDE_CARRIED, WIDE_ZEROED, WIDE_ROOM, WIDE_START,
-    WIDE_OBJECT, WIDE_FILE, WIDE_SPACE, WIDTHS
+    WIDE_OBJECT, WIDE_FILE, WIDE_SPACE, WIDE_END_ROOM, WIDTHS
 };
 enum { WIDEST = 65 };
 
@@ -55,16 +55,6 @@ static inline uint32_t told_in(const uint8_t *record)
     return TOLD((uint32_t)sense[STORMTOGGLE_SENSE_KEY], sense[STORMTOGGLE_SENSE_ASC], sense[STORMTOGGLE_SENSE_ASCQ]);
 }
 
-static inline uint64_t end_in(enum slice slice, uint64_t n)
-{
-    return n == 0 ? 0 : end_in_entry(bytes_of(slice, MODEL), twins[slice].length, n - 1);
-}
-
-static inline uint64_t room_in(enum slice slice, uint64_t n)
-{
-    return twins[slice].length - TRAILER - ENTRY * n - end_in(slice, n);
-}
-
 /* Of LOCATE (16) and SPACE (16) that came just where they were sent. */
 static inline void count_wide_move(const uint8_t *block)
 {
@@ -87,6 +77,8 @@ static inline void count_cartridge(const uint8_t *block, uint64_t carried)
     note_width(WIDE_POSITION, get32(record_before + STORMTOGGLE_RECORD_POSITION));
     if (block[0] == READ_POSITION && carried > 0)
         note_width(WIDE_ROOM, room * ZONE_SHARE);
+    if (is_end_of_data(told_in(record)))
+        note_width(WIDE_END_ROOM, room * ZONE_SHARE);
     if (block[0] == READ_POSITION && carried == LONG_BYTES)
         note_width(WIDE_FILEMARKS, get32(bytes_of(RECEIVED, MODEL) + LONG_FILEMARKS));
     if (block[0] == READ || block[0] == WRITE) {
@@ -131,8 +123,10 @@ static inline void count_command(unsigned refusal, uint64_t answer)
     if (is_long_move(block[0]))
         count_move(block, told, record_before, record);
     note_width(WIDE_BLOCK, twins[COMMAND].length);
-    if (record[STORMTOGGLE_RECORD_LOADED])
+    if (record[STORMTOGGLE_RECORD_LOADED]) {
         count_cartridge(block, STORMTOGGLE_CARRIED(answer));
+        count_end(block, told, record_before, record);
+    }
     if (STORMTOGGLE_STATUS(answer) == STORMTOGGLE_GOOD) {
         reached.good[block[0]]++;
         return;

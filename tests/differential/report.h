@@ -90,6 +90,7 @@ static inline void report_widths(void)
         [WIDE_OBJECT] = {"an object of LOCATE (16)", {16, 17, 20, 24}, 0},
         [WIDE_FILE] = {"a file of LOCATE (16)", {16, 17, 20, 24}, 0},
         [WIDE_SPACE] = {"a count of SPACE (16)", {16, 17, 20, 24}, 0},
+        [WIDE_END_ROOM] = {"room x 16 at end of data", {16, 24, 32}, 0},
     };
     for (int i = 0; i < WIDTHS; i++) {
         printf("%s above", widths[i].name);
@@ -131,6 +132,28 @@ static inline void report_moves(void)
     }
 }
 
+/* A variable READ meets end of data only where it begins. */
+static inline void report_ends(void)
+{
+    for (int ending = 0; ending < ENDINGS; ending++) {
+        printf("end of data by %s,", ending_names[ending]);
+        for (int place = 0; place < PLACES; place++)
+            printf("%s %s %lu", place == 0 ? "" : ",", place_names[place], shown(ends.met[ending][place]));
+        printf("; in it beside one that is not %lu, before it beside one that is in it %lu",
+               shown(ends.beside[ending][1]), shown(ends.beside[ending][0]));
+        if (is_locating((enum ending)ending))
+            printf("; come from there %lu, %lu", shown(ends.changed[ending][1]), shown(ends.changed[ending][0]));
+        if (ending != BY_READ)
+            printf("; begun before the zone %lu", shown(ends.begun_before[ending]));
+        printf("\n");
+    }
+    for (int arrival = 0; arrival < ARRIVALS; arrival++)
+        printf("GOOD at N by %s, before the zone %lu, in it %lu\n", arrival_names[arrival],
+               shown(ends.good[arrival][0]), shown(ends.good[arrival][1]));
+    printf("in the zone of SPACE (16), a residue that does not fit, of blocks %lu, of filemarks %lu\n",
+           shown(ends.without_residue[BLOCKS]), shown(ends.without_residue[FILEMARKS]));
+}
+
 static inline void report_read_only(void)
 {
     printf("read-only: a WRITE that puts nothing %lu, the partition beside %lu, a buffer that receives nothing %lu, "
@@ -147,6 +170,7 @@ static inline int report(void)
     report_senses();
     report_widths();
     report_moves();
+    report_ends();
     report_read_only();
     printf("empty slices as NULL %lu, 2^32 bytes and more asked %lu, and lent %lu, 65,536 put %lu\n",
            shown(reached.null_slices), shown(reached.wide_products), shown(reached.wide_done),

@@ -224,8 +224,25 @@ static inline void run_filemarks(enum slice partition, uint64_t count, int thoro
     give_rooms_back();
 }
 
+/* End of data, met by each command that can. */
+static inline void send_past_end(uint64_t objects, uint64_t blocks_left)
+{
+    send(LOCATE, CP, objects + 1);
+    send(READ, 0, 9);
+    send(READ, FIXED, 1);
+    send(SPACE, FILEMARKS, 1);
+    send(SPACE_16, BLOCKS, 1);
+    send(LOCATE_16, CP | TO_OBJECT, BEYOND_32_BITS);
+    send(LOCATE, CP, objects - blocks_left);
+    send(SPACE, BLOCKS, blocks_left + 1);
+    send(LOCATE, CP, objects - blocks_left);
+    send(SPACE_16, FILEMARKS, 1);
+    send(LOCATE_16, CP | TO_FILE, 1);
+}
+
 /* Bytes carried and zeroed, by the number of largest blocks that fit; one more is asked for if the cartridge is the
- * longest. At its beginning room x 16 is 2^32 and more. */
+ * longest. At its beginning room x 16 is 2^32 and more, so that a product cut to 32 bits puts it in the zone; its end
+ * is there. */
 static inline void run_bytes(enum slice partition, uint64_t blocks)
 {
     uint64_t length = blocks * (LARGEST_BLOCK + ENTRY) + TRAILER + draw(LARGEST_BLOCK - 8);
@@ -241,6 +258,7 @@ static inline void run_bytes(enum slice partition, uint64_t blocks)
     send(REWIND, 0, 0);
     send_one_byte_short(READ, FIXED, blocks);
     send(READ, FIXED, blocks);
+    send_past_end(blocks, 300);
     send(LOCATE, CP, blocks - 300);
     send(READ, FIXED, 257 + draw(40));
     send(LOCATE, CP, blocks - 300);
@@ -249,6 +267,7 @@ static inline void run_bytes(enum slice partition, uint64_t blocks)
     send(WRITE, FIXED, 257 + draw(40));
     send(LOCATE, CP, 0);
     send(ERASE, LONG, 0);
+    send_past_end(0, 0);
     give_rooms_back();
 }
 

@@ -98,7 +98,18 @@ static inline uint64_t command_whole(uint8_t *record, struct bytes block, uint8_
                            bytes_at(loan, 1), length_at(loan, 1), NULL, 0, received, length);
 }
 
-enum meeting { A_BLOCK, A_FILEMARK, END_OF_TAPE, SOMETHING_ELSE };
+enum meeting { A_BLOCK, A_FILEMARK, END_OF_TAPE, END_IN_ZONE, SOMETHING_ELSE };
+
+/* Whether "position N of the partition is in the zone", by the room that the objects of the list leave: an object takes
+ * its entry and its data. */
+static inline int ends_in_zone(const struct tape *tape)
+{
+    const struct list *kept = &tape->history.kept;
+    uint64_t all = tape->length - TRAILER, room = all;
+    for (size_t i = 0; i < kept->count; i++)
+        room -= ENTRY + (uint64_t)kept->events[i].length;
+    return room * ZONE_SHARE < all;
+}
 
 /* What a READ of the largest block met, told by the answer and the kept sense alone. */
 static inline enum meeting met_by(uint64_t answer, const uint8_t *sense, int hides_length)
@@ -114,6 +125,7 @@ static inline enum meeting met_by(uint64_t answer, const uint8_t *sense, int hid
     case TOLD_LENGTH: return carried > 0 && !hides_length ? A_BLOCK : SOMETHING_ELSE;
     case TOLD_FILEMARK: return carried == 0 ? A_FILEMARK : SOMETHING_ELSE;
     case TOLD_END_OF_DATA: return carried == 0 ? END_OF_TAPE : SOMETHING_ELSE;
+    case TOLD_END_IN_ZONE: return carried == 0 ? END_IN_ZONE : SOMETHING_ELSE;
     default: return SOMETHING_ELSE;
     }
 }
@@ -124,7 +136,7 @@ static inline void read_differs(const struct tape *tape, uint32_t k, const struc
     uint32_t length = object != NULL ? object->length : 0, same = 0;
     print_latest();
     printf("read of partition %d, number %u: expected %s, came ", number_of(tape), (unsigned)k,
-           object == NULL ? "end of data" : in_words(object));
+           object != NULL ? in_words(object) : ends_in_zone(tape) ? "end of data in the zone" : "end of data");
     print_answer(stdout, answer, record);
     if (length > 0 && STORMTOGGLE_CARRIED(answer) == length)
         same = same_bytes(read_bytes, object->bytes, length);
@@ -133,11 +145,20 @@ static inline void read_differs(const struct tape *tape, uint32_t k, const struc
     end_mismatch();
 }
 
+static inline enum meeting meeting_expected(const struct tape *tape, const struct event *object)
+{
+    if (object == NULL)
+        return ends_in_zone(tape) ? END_IN_ZONE : END_OF_TAPE;
+    return object->kind == PUT_BLOCK ? A_BLOCK : A_FILEMARK;
+}
+
 /* One READ meets this object, or the end of data if it is NULL. What the buffer held before is none of its bytes. */
 static inline int read_meets(uint8_t *record, const struct tape *tape, uint32_t k, const struct event *object)
 {
+    static const enum happening happenings[] = {[A_BLOCK] = BLOCKS_MET, [A_FILEMARK] = FILEMARKS_MET,
+                                                [END_OF_TAPE] = ENDS_MET, [END_IN_ZONE] = ENDS_MET_IN_ZONE};
     int hides_length = one_in(2), agrees;
-    enum meeting expected = object == NULL ? END_OF_TAPE : object->kind == PUT_BLOCK ? A_BLOCK : A_FILEMARK;
+    enum meeting expected = meeting_expected(tape, object);
     uint32_t length = object != NULL ? object->length : 0;
     uint64_t answer;
     if (length > 0)
@@ -145,7 +166,7 @@ static inline int read_meets(uint8_t *record, const struct tape *tape, uint32_t 
     answer = command_whole(record, (struct bytes)SIX(READ, hides_length ? SILI : 0, LARGEST_BLOCK), read_bytes,
                            LARGEST_BLOCK);
     happens(READS, 1);
-    happens(expected == A_BLOCK ? BLOCKS_MET : expected == A_FILEMARK ? FILEMARKS_MET : ENDS_MET, 1);
+    happens(happenings[expected], 1);
     agrees = met_by(answer, record + STORMTOGGLE_RECORD_SENSE, hides_length) == expected &&
              STORMTOGGLE_CARRIED(answer) == length && (length == 0 || memcmp(read_bytes, object->bytes, length) == 0);
     if (!agrees)
@@ -197,11 +218,26 @@ static inline uint32_t start_of_file(const struct tape *tape, uint32_t file)
     return number;
 }
 
+/* What a command told that went past the last file: end of data, with EOM by the list. */
+static inline int tells_end(const uint8_t *record, const struct tape *tape, uint64_t answer)
+{
+    uint32_t expected = ends_in_zone(tape) ? TOLD_END_IN_ZONE : TOLD_END_OF_DATA, told = TOLD_GOOD;
+    happens(PAST_FILES_IN_ZONE, expected == TOLD_END_IN_ZONE);
+    if (STORMTOGGLE_STATUS(answer) != STORMTOGGLE_GOOD)
+        told = told_by(record + STORMTOGGLE_RECORD_SENSE);
+    if (STORMTOGGLE_REFUSAL(answer) == 0 && told == expected)
+        return 1;
+    mismatch("past the last file of partition %d: bytes 2, 12 and 13 of the sense expected %06xh, came %06xh",
+             number_of(tape), (unsigned)expected, (unsigned)told);
+    return 0;
+}
+
 /* From a file, at times from one that is not there: reached by LOCATE (16), or over the filemarks by SPACE (16). */
 static inline int reads_meet_file(uint8_t *record, const struct tape *tape)
 {
     uint32_t end = end_of(&tape->history), filemarks = 0, file;
     int by_locate = one_in(2);
+    uint64_t answer;
     for (uint32_t k = 0; k < end; k++) {
         const struct event *object = standing(&tape->history.kept, k);
         filemarks += object != NULL && object->kind == PUT_FILEMARK;
@@ -209,11 +245,13 @@ static inline int reads_meet_file(uint8_t *record, const struct tape *tape)
     file = draw(filemarks + 2);
     happens(file > filemarks ? PAST_FILES_READ : by_locate ? FILES_LOCATED : FILES_SPACED, file > 0);
     if (by_locate) {
-        command_whole(record, (struct bytes)LOCATE_16(CP | TO_FILE, file, (uint8_t)number_of(tape)), NULL, 0);
+        answer = command_whole(record, (struct bytes)LOCATE_16(CP | TO_FILE, file, (uint8_t)number_of(tape)), NULL, 0);
     } else {
         go_to_beginning(record, tape);
-        command_whole(record, (struct bytes)SPACE_16(FILEMARKS, file), NULL, 0);
+        answer = command_whole(record, (struct bytes)SPACE_16(FILEMARKS, file), NULL, 0);
     }
+    if (file > filemarks && !tells_end(record, tape, answer))
+        return 0;
     return reads_meet_from(record, tape, start_of_file(tape, file));
 }
 

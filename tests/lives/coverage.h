@@ -12,8 +12,8 @@ enum happening {
     MOUNTS, REMOUNTS, PROTECTION_SET, PROTECTION_CLEARED, ATTENTIONS_TOLD, CODES_NOT_SERVED, BAD_FIELDS,
     ABOVE_N, UNDER_ODD_RECORDS, CHANGED_BY_ODD_RECORDS,
     LONE_FIRST, LONE_SECOND, LONE_BESIDE_ANOTHER, LONE_CHANGED, ANOTHER_CHANGED,
-    VIEWS, READS, BLOCKS_MET, FILEMARKS_MET, ENDS_MET, FILES_LOCATED, FILES_SPACED, PAST_FILES_READ, OWN_READINGS,
-    OWN_ABOVE_N, NEVER_BY_4, LISTS_READ_WHOLE, HAPPENINGS
+    VIEWS, READS, BLOCKS_MET, FILEMARKS_MET, ENDS_MET, ENDS_MET_IN_ZONE, FILES_LOCATED, FILES_SPACED, PAST_FILES_READ,
+    PAST_FILES_IN_ZONE, OWN_READINGS, OWN_ABOVE_N, NEVER_BY_4, LISTS_READ_WHOLE, HAPPENINGS
 };
 
 static const char *const happening_names[HAPPENINGS] = {
@@ -52,10 +52,12 @@ static const char *const happening_names[HAPPENINGS] = {
     [READS] = "reads compared",
     [BLOCKS_MET] = "blocks met",
     [FILEMARKS_MET] = "filemarks met",
-    [ENDS_MET] = "ends of data met",
+    [ENDS_MET] = "ends of data met before the zone",
+    [ENDS_MET_IN_ZONE] = "ends of data met in the zone",
     [FILES_LOCATED] = "readings of a file by LOCATE (16)",
     [FILES_SPACED] = "readings of a file by SPACE (16)",
     [PAST_FILES_READ] = "readings past the last file",
+    [PAST_FILES_IN_ZONE] = "such readings that end in the zone",
     [OWN_READINGS] = "readings under a life's own record",
     [OWN_ABOVE_N] = "such readings refused above N",
     [NEVER_BY_4] = "calls that 4 may never refuse",

@@ -84,11 +84,22 @@ static inline void spoil_read(const struct moment *was, uint8_t *record)
         put32(record + STORMTOGGLE_RECORD_POSITION, now + 1);
 }
 
+/* After a command that met end of data: no EOM in the zone, or EOM before it. */
+static inline void spoil_end(uint8_t *record, const uint8_t *command, uint32_t told)
+{
+    uint8_t *byte_2 = record + STORMTOGGLE_RECORD_SENSE + STORMTOGGLE_SENSE_KEY;
+    int has_16_bytes = command[0] == LOCATE_16 || command[0] == SPACE_16;
+    if ((FAULT == 13 && command[0] == READ && told == TOLD_END_IN_ZONE) ||
+        (FAULT == 14 && has_16_bytes && told == TOLD_END_OF_DATA))
+        *byte_2 ^= STORMTOGGLE_EOM;
+}
+
 static inline void spoil(const struct moment *was, uint64_t answer, uint8_t *record, const uint8_t *command,
                          uint32_t objects_there)
 {
     int is_good = STORMTOGGLE_STATUS(answer) == STORMTOGGLE_GOOD;
     uint32_t told = is_good ? TOLD_GOOD : told_by(record + STORMTOGGLE_RECORD_SENSE);
+    spoil_end(record, command, told);
     if (command[0] == WRITE || command[0] == WRITE_FILEMARKS) {
         if (told == TOLD_GOOD || told == TOLD_ZONE || told == TOLD_OVERFLOW)
             spoil_put(was, record, command);

@@ -1,5 +1,5 @@
 #!/usr/bin/env bash
-# faults.sh: shows that tests/lives/lives.c can fail: the run of check finds each of twelve faults seeded in the
+# faults.sh: shows that tests/lives/lives.c can fail: the run of check finds each of fourteen faults seeded in the
 # services.
 # LIBRARY names another archive than the one that is built here from the sources.
 set -u
@@ -20,5 +20,7 @@ faults=(
     "LONG zeroes the last byte before the position"
     "LOCATE (16) to a file stops before its filemark"
     "SPACE (16) over filemarks stops before the last of them"
+    "READ at end of data tells no EOM in the zone"
+    "LOCATE (16) and SPACE (16) tell EOM at end of data before the zone too"
 )
 run_with_slips tests/lives/lives.c 200000 "${faults[@]}"

@@ -19,11 +19,11 @@ use Rattle.commands.specs.Step.{statusOf, keptOf, acted, unless, step}
 use Rattle.commands.specs.Call.{looksAt, seenOf, seen, inserted, laidOut, applied, stepOf, called, commandCall}
 use Rattle.edges.specs.Cases.{bare64}
 use Rattle.edges.specs.Traps.{Traps}
-use Rattle.edges.specs.EndOfData.{one, onSide, acrossTheZone}
+use Rattle.edges.specs.EndOfData.{one, onSide, beforeTheZone, inTheZone, acrossTheZone}
 
 -- 41 bytes: EOM 0; 42: EOM; from the one into the other, and back
-pub at-the-end : Traps (onSide 41 0x08) × Traps (onSide 42 0x48) × Traps acrossTheZone
-unfolding Traps onSide acrossTheZone one bare64 be bytes over signed wrapped fits32 bytesIn M.walk M.before M.ahead M.astern M.space M.residue M.toEndOfData M.toObject M.toFile M.locate
+pub at-the-end : Traps beforeTheZone × Traps inTheZone × Traps acrossTheZone
+unfolding Traps onSide beforeTheZone inTheZone acrossTheZone one bare64 be bytes over signed wrapped fits32 bytesIn M.walk M.before M.ahead M.astern M.space M.residue M.toEndOfData M.toObject M.toFile M.locate
     runOf fitting putFrom count flags protected directory size entry topBit low31 endAt follows ordered rightLength sound objectAt upto objects occurs
     senseBytes reports told emptySense decodeOf encodeOf attentionKnown emptyHanded placed wellFormed wellRecord withSense tooShort inMasks masksHold
     fixedOf siliOf transferOf spaceCodeOf spaceCountOf spaceCount16Of longOf changesPartition objectOf partitionOf destinationOf partition16Of identifierOf allocationOf first

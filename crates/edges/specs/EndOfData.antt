@@ -25,7 +25,7 @@ uncounted b2 = sense18 0x70 b2 0 0x00 0x05
 unfoldable pub onSide : ℕ → ℕ → List Trap
 onSide n b2 =
     -- READ: variable, and FIXED of two blocks, of which there is one
-    alone (loaded 0 1 0 nothingKept) (six 0x08 0 5) (one n) [] (zeros 5) (check 0) (loaded 0 1 0 (counted b2 5)) (one n) (zeros 5) ∷
+    alone (loaded 0 1 0 nothingKept) (six 0x08 0 5) (one n) [] (zeros 16) (check 0) (loaded 0 1 0 (counted b2 5)) (one n) (zeros 16) ∷
     alone (loaded 0 0 n nothingKept) (six 0x08 1 2) (one n) [] (zeros (2 * n)) (check n) (loaded 0 1 n (counted b2 1)) (one n) (over (zeros (2 * n)) 0 (replicate n 7)) ∷
     -- SPACE: over blocks from there and from the beginning, over filemarks; of sixteen bytes with a residue that fits, and with one that does not
     turns (loaded 0 1 0 nothingKept) (six 0x11 0 1) (one n) (check 0) (loaded 0 1 0 (counted b2 1)) ∷
@@ -35,15 +35,22 @@ onSide n b2 =
     turns (loaded 0 0 0 nothingKept) (sixteen 0x91 1 0 (2 ^ 63 - 1)) (one n) (check 0) (loaded 0 1 0 (uncounted b2)) ∷
     -- LOCATE: to an object, of sixteen bytes too, and to a file
     turns (loaded 0 0 0 nothingKept) (locate 2) (one n) (check 0) (loaded 0 1 0 (uncounted b2)) ∷
-    turns (loaded 0 1 0 nothingKept) (locate (2 ^ 32 - 1)) (one n) (check 0) (loaded 0 1 0 (uncounted b2)) ∷
+    turns (loaded 0 0 0 nothingKept) (locate (2 ^ 32 - 1)) (one n) (check 0) (loaded 0 1 0 (uncounted b2)) ∷
     turns (loaded 0 0 0 nothingKept) (sixteen 0x92 0x00 0 2) (one n) (check 0) (loaded 0 1 0 (uncounted b2)) ∷
     turns (loaded 0 0 0 nothingKept) (sixteen 0x92 0x08 0 1) (one n) (check 0) (loaded 0 1 0 (uncounted b2)) ∷
     -- and what reaches end of data without meeting it is GOOD on both: SPACE code 3, LOCATE to N, and to end of data
-    turns (loaded 0 0 0 nothingKept) (six 0x11 3 1) (one n) (goodAnswer 0) (loaded 0 1 0 nothingKept) ∷
-    turns (loaded 0 1 0 nothingKept) (sixteen 0x91 3 0 1) (one n) (goodAnswer 0) (loaded 0 1 0 nothingKept) ∷
+    turns (loaded 0 0 0 nothingKept) (six 0x11 3 5) (one n) (goodAnswer 0) (loaded 0 1 0 nothingKept) ∷
+    turns (loaded 0 1 0 nothingKept) (sixteen 0x91 3 0 (2 ^ 63 - 1)) (one n) (goodAnswer 0) (loaded 0 1 0 nothingKept) ∷
     turns (loaded 0 0 0 nothingKept) (locate 1) (one n) (goodAnswer 0) (loaded 0 1 0 nothingKept) ∷
-    turns (loaded 0 0 0 nothingKept) (sixteen 0x92 0x18 0 9) (one n) (goodAnswer 0) (loaded 0 1 0 nothingKept) ∷
+    turns (loaded 0 0 0 nothingKept) (sixteen 0x92 0x18 0 0) (one n) (goodAnswer 0) (loaded 0 1 0 nothingKept) ∷
     []
+
+-- "a case on each side of the zone": 08h before it, 48h in it
+unfoldable pub beforeTheZone : List Trap
+beforeTheZone = onSide 41 0x08
+
+unfoldable pub inTheZone : List Trap
+inTheZone = onSide 42 0x48
 
 -- ---- from a partition on one side, by CP, into one on the other: the target decides
 
@@ -53,7 +60,7 @@ twoAt current position sense = (1 ∷ 2 ∷ current ∷ 0 ∷ []) ++ bytes 4 pos
 -- partition 0 has a block of 41 bytes, partition 1 one of 42
 abbrev goesPast : List ℕ → ℕ → ℕ → ℕ → Trap
 goesPast command from to b2 =
-    record { rec = twoAt from 0 nothingKept; lends = lent command (one 41) (one 42) [] []; leaves = result (check 0) (twoAt to 1 (uncounted b2)) (lent command (one 41) (one 42) [] []) }
+    record { rec = twoAt from 1 nothingKept; lends = lent command (one 41) (one 42) [] []; leaves = result (check 0) (twoAt to 1 (uncounted b2)) (lent command (one 41) (one 42) [] []) }
 
 -- LOCATE (10) to object 2, with CP into a partition, or without
 abbrev into : ℕ → List ℕ
@@ -71,5 +78,5 @@ acrossTheZone =
     goesPast (locate 2) 0 0 0x08 ∷
     goesPast (locate 2) 1 1 0x48 ∷
     -- nothing on it: N is 0, with room for all
-    alone (loaded 0 0 0 nothingKept) (six 0x08 0 5) bare64 [] (zeros 5) (check 0) (loaded 0 0 0 (counted 0x08 5)) bare64 (zeros 5) ∷
+    alone (loaded 0 0 3 nothingKept) (six 0x08 1 2) bare64 [] (zeros 6) (check 0) (loaded 0 0 3 (counted 0x08 2)) bare64 (zeros 6) ∷
     []

@@ -1,7 +1,7 @@
 -- Q-2, proved of the call. EOM at end of data is told exactly where position N of the partition looked at is in the zone; and by any other rule for
 -- that bit, 01's constant among them, the call is the same but for the bit, which is one of byte 2 of the kept sense.
 -- Assumes nothing.
-use Prim.Native.Nat.{ℕ}
+use Prim.Native.Nat.{ℕ, _≤_, _<_}
 use native.Mathlib.Omega.{arith}
 use mathlib.Core.Path.{_≡_, refl, sym, ap, _∙_, subst}
 use mathlib.Core.Logic.{_↔_}
@@ -18,6 +18,7 @@ use Rattle.answers.specs.Answers.{checkCondition, answered, commandShort, recor
 use Rattle.objects.specs.Movement as M
 use Rattle.image.specs.Image.{count, zone}
 use Rattle.image.proofs.Facts.{sound-of}
+use Rattle.image.proofs.Objects.{length-objects}
 use Rattle.sense.specs.declared.Sense.{Sense}
 use Rattle.sense.specs.Sense.{blankCheck, noAdditional, endOfDataDetected, senseBytes, reports, told, partsOf, emptySense}
 use Rattle.sense.proofs.RoundTrip.{parts-made}
@@ -27,23 +28,27 @@ use Rattle.codes.specs.declared.operation.Operation.{Operation}
 use Rattle.codes.specs.declared.operation.Operation.the-variants.{Read, Space, Locate, Space16, Locate16}
 use Rattle.codes.specs.Codes.{numberOf, codeOf, tooShort, operationOf}
 use Rattle.codes.specs.Fields.{longOf, spaceCodeOf, spaceCountOf, spaceCount16Of}
-use Rattle.commands.specs.Kinds.{among, needsCartridge, erases}
+use Rattle.commands.specs.Kinds.{among, needsCartridge, erases, locates}
 use Rattle.commands.specs.Stop.{Stop, refuse}
 use Rattle.commands.specs.Act.{Seen, Deed, eomAtEnd, toEnd, movement, spaceTells, spacing, act, eventsOf}
 use Rattle.commands.specs.Tests.{tests}
 use Rattle.commands.specs.Step.{Stepped, statusOf, keptOf, acted, unless, step}
-use Rattle.commands.specs.Call.{Lent, outcome, Result, result, looksAt, seen, faulty, laidOut, applied, stepOf, called, written, commandCall, commandTests}
+use Rattle.commands.specs.Call.{Lent, outcome, Result, result, looksAt, seenOf, seen, faulty, laidOut, applied, stepOf, called, written, commandCall, commandTests}
 use Rattle.commands.proofs.Classes.{named}
-use Rattle.commands.proofs.Faultless.{Well, sense-whole, inside, sound-there, looks-in, seen-there}
+use Rattle.commands.proofs.Faultless.{Well, place-small, sense-whole, back, kept-whole, inside, sound-there, looks-in, seen-there}
+use Rattle.commands.proofs.Ends.{call-acts}
 use Rattle.commands.proofs.Goes.{has-cartridge}
 use Rattle.commands.proofs.Passed.{passed}
 use Rattle.commands.proofs.Zone.{end-seen}
+use Rattle.history.proofs.Acted.{place}
+use Rattle.history.proofs.Always.{acts-after}
 use Rattle.history.proofs.Ended.{Finished, by-number, by-sense, by-act, ended}
 use Rattle.history.proofs.ReadBack.{told-held}
 use Rattle.exact.specs.Senses.{senseAfter}
 use Rattle.exact.specs.EndOfData.{MeetsEnd, mayMeetEnd, lookedAt, EndsInZone, actBy, actedBy, callWith, callBy, never, byte2At, withByte2, endByte2}
 use Rattle.exact.proofs.Senses.{sense-back, after-act, told-test, heard}
 use Rattle.exact.proofs.Ruled.{deed, Ending, elsewhere, at-end, act-ends}
+use Rattle.exact.proofs.AtEnd.{act-stands}
 
 -- ---- byte 2 of the sense kept in a record
 
@@ -217,12 +222,17 @@ module _ (rec : List ℕ) (x : Lent) where
 
   -- ---- "Set it exactly when position N of the partition is in the zone"
 
+  is-loaded : mayMeetEnd o ≡ true → first (tests o d (x .cmd) v (x .sent) (length (x .received))) ≡ none → d .loaded ≡ 0 → ⊥
+  is-loaded h q = has-cartridge d (x .cmd) (x .sent) (length (x .received)) v o (of-all needsCartridge o (Read ∷ Space ∷ Locate ∷ Space16 ∷ Locate16 ∷ []) (refl, (refl, (refl, (refl, (refl, tt))))) h) q
+
+  is-there : mayMeetEnd o ≡ true → Well d (x .part0) (x .part1) → first (tests o d (x .cmd) v (x .sent) (length (x .received))) ≡ none → looksAt o d (x .cmd) < d .partitions
+  is-there h w q = looks-in o d (x .cmd) (inside d (x .part0) (x .part1) (w .cart) (is-loaded h q) .there) (passed o d (x .cmd) v (x .sent) (length (x .received)) q .there)
+
+  seen-so : mayMeetEnd o ≡ true → Well d (x .part0) (x .part1) → first (tests o d (x .cmd) v (x .sent) (length (x .received))) ≡ none → v ≡ seenOf (lookedAt rec x)
+  seen-so h w q = seen-there o d x (is-there h w q)
+
   sees-it : mayMeetEnd o ≡ true → Well d (x .part0) (x .part1) → first (tests o d (x .cmd) v (x .sent) (length (x .received))) ≡ none → zone (lookedAt rec x) (count (lookedAt rec x)) ≡ eomAtEnd v
-  sees-it h w q =
-      let k = passed o d (x .cmd) v (x .sent) (length (x .received)) q in
-      let l = has-cartridge d (x .cmd) (x .sent) (length (x .received)) v o (of-all needsCartridge o (Read ∷ Space ∷ Locate ∷ Space16 ∷ Locate16 ∷ []) (refl, (refl, (refl, (refl, (refl, tt))))) h) q in
-      let i = looks-in o d (x .cmd) (inside d (x .part0) (x .part1) (w .cart) l .there) (k .there) in
-      end-seen (lookedAt rec x) (sound-of (lookedAt rec x) (sound-there d (x .part0) (x .part1) (w .cart) (looksAt o d (x .cmd)) i)) ∙ ap eomAtEnd (sym (seen-there o d x i))
+  sees-it h w q = end-seen (lookedAt rec x) (sound-of (lookedAt rec x) (sound-there d (x .part0) (x .part1) (w .cart) (looksAt o d (x .cmd)) (is-there h w q))) ∙ ap eomAtEnd (sym (seen-so h w q))
 
   pub eom-is : MeetsEnd R → senseAfter R .eom ≡ zone (lookedAt rec x) (count (lookedAt rec x))
   unfolding told
@@ -235,6 +245,31 @@ module _ (rec : List ℕ) (x : Lent) where
   pub eom-exactly : MeetsEnd R → (senseAfter R .eom ≡ true) ↔ EndsInZone (lookedAt rec x)
   unfolding zone
   eom-exactly m = ((λ e. ltb-true _ _ (sym (eom-is m) ∙ e)), (λ h. eom-is m ∙ lt-ltb _ _ h))
+
+  -- ---- which is where the drive stands then
+
+  stands : first T ≡ none → Well d (x .part0) (x .part1) → first (tests o d (x .cmd) v (x .sent) (length (x .received))) ≡ none → MeetsEnd R
+      → (decodeOf (R .rec) .current ≡ looksAt o d (x .cmd)) × (decodeOf (R .rec) .position ≡ length (v .objects))
+  unfolding applied acted withSense
+  stands e w q m =
+      let a = acts-after rec x w o q in
+      let r : decodeOf (R .rec) ≡ withSense (E .drive) (keptOf (E .tells)) = ap (λ (y : Result). decodeOf (y .rec)) (call-acts rec x e) ∙ back (E .drive) (keptOf (E .tells)) (place-small _ _ _ (a .cart)) (a .small) (kept-whole (E .tells)) in
+      let t = act-stands d (x .cmd) (x .sent) v o in-place (senseAfter R) (heard rec x e (m .0)) (m .1 .0) in
+      (ap (λ (y : Drive). y .current) r ∙ t .0, ap (λ (y : Drive). y .position) r ∙ t .1)
+    where
+      current : locates o ≡ false → looksAt o d (x .cmd) ≡ d .current
+      current n = unfold looksAt in rw n refl
+
+      in-place : locates o ≡ false → d .position ≤ length (v .objects)
+      in-place n = place rec x w o q (current n) (is-loaded (met-by m) q)
+
+  pub met-at-n : MeetsEnd R → (decodeOf (R .rec) .current ≡ looksAt (operationOf (codeOf (x .cmd))) (decodeOf rec) (x .cmd)) × (decodeOf (R .rec) .position ≡ count (lookedAt rec x))
+  met-at-n m = go (ended rec (x .cmd) (x .part0) (x .part1) (x .sent) (x .received))
+    where
+      go : Finished rec (x .cmd) (x .part0) (x .part1) (x .sent) (x .received) → (decodeOf (R .rec) .current ≡ looksAt o d (x .cmd)) × (decodeOf (R .rec) .position ≡ count (lookedAt rec x))
+      go (by-number n h e c) = absurd (stopped-not _ e m)
+      go (by-sense s e f b w p l c) = absurd (stopped-not s e m)
+      go (by-act e w q c) = let t = stands e w q m in (t .0, t .1 ∙ ap (λ (y : Seen). length (y .objects)) (seen-so (met-by m) w q) ∙ unfold seenOf in length-objects (lookedAt rec x))
 
   -- ---- and nothing else of any outcome: beside the call as 01 had it
 

@@ -2,6 +2,7 @@ pub mod Determined
 pub mod House
 pub mod Tells
 pub mod Ruled
+pub mod AtEnd
 pub mod Senses
 pub mod EndOfData
 pub mod Carried

@@ -31,10 +31,10 @@ deed d t b n = record { drive = d; tells = t; received = b; carried = n }
 abbrev pub Elsewhere : Option Sense → Type 0
 Elsewhere t = (s : Sense) → t ≡ some s → s .key ≡ blankCheck → ⊥
 
-silent : Elsewhere none
+pub silent : Elsewhere none
 silent s e k = let z : _≡_ {A = ℕ} 0 1 = cc in omega arith
 
-another : (c f e i : Bool) (key asc ascq : ℕ) (z : ℤ) → (key ≡ blankCheck → ⊥) → Elsewhere (some (told c f e i key asc ascq z))
+pub another : (c f e i : Bool) (key asc ascq : ℕ) (z : ℤ) → (key ≡ blankCheck → ⊥) → Elsewhere (some (told c f e i key asc ascq z))
 unfolding told
 another c f e i key asc ascq z h s q k = let y : told c f e i key asc ascq z ≡ s = cc in h (ap (λ (t : Sense). t .key) y ∙ k)
 
@@ -51,7 +51,7 @@ module _ (d : Drive) (cmd sent : List ℕ) (v : Seen) where
       go true false = silent
       go false w = another _ _ _ _ _ _ _ _ (λ e. omega arith)
 
-  write-elsewhere : Elsewhere ((writing d cmd sent v) .tells)
+  pub write-elsewhere : Elsewhere ((writing d cmd sent v) .tells)
   unfolding writing
   write-elsewhere = go (eqb (transferOf cmd) 0) (fixedOf cmd) (goesDown Write d cmd sent v)
     where
@@ -60,7 +60,7 @@ module _ (d : Drive) (cmd sent : List ℕ) (v : Seen) where
       go false true os = wrote-elsewhere _ _ _
       go false false os = wrote-elsewhere _ _ _
 
-  marks-elsewhere : Elsewhere ((marking d cmd sent v) .tells)
+  pub marks-elsewhere : Elsewhere ((marking d cmd sent v) .tells)
   unfolding marking
   marks-elsewhere = go (eqb (transferOf cmd) 0) (goesDown WriteFilemarks d cmd sent v)
     where
@@ -68,7 +68,7 @@ module _ (d : Drive) (cmd sent : List ℕ) (v : Seen) where
       go true os = silent
       go false os = wrote-elsewhere _ _ _
 
-  select-elsewhere : Elsewhere ((selecting d cmd sent) .tells)
+  pub select-elsewhere : Elsewhere ((selecting d cmd sent) .tells)
   unfolding selecting
   select-elsewhere = go (eqb (allocationOf cmd) 0) (listRight (allocationOf cmd) sent) (allocationOf cmd) (cond (eqb (allocationOf cmd) wholeLength) (withLength d (newLength sent)) d)
     where
