@@ -279,13 +279,15 @@ static void passes(uint32_t n, uint32_t k, const char *what)
     free(image.at);
 }
 
-/* The same command by both, which must leave the same record, bytes and answer. */
-static void small(uint8_t code, size_t length, const char *what)
+/* The same command by both, which must leave the same record, bytes and answer; LOCATE asks for an object. */
+static void small(uint8_t code, size_t length, uint32_t object, const char *what)
 {
     uint8_t before[RECORD_BYTES], left[RECORD_BYTES], data[LONG_BYTES];
     uint64_t answer;
     memset(asked, 0, sizeof asked);
     asked[0] = code;
+    if (code == LOCATE)
+        put32(asked + AT_OBJECT, object);
     asked_length = length;
     memcpy(before, record, RECORD_BYTES);
     by = &ours;
@@ -344,9 +346,10 @@ int main(void)
 
     image = make_image(1, 1, 0, 64);
     mount(&image, &none);
-    small(TEST_UNIT_READY, BYTES_6, "TEST UNIT READY, one object");
+    small(TEST_UNIT_READY, BYTES_6, 0, "TEST UNIT READY, one object");
     put_position(1);
-    small(READ_POSITION, BYTES_10, "READ POSITION, one object");
+    small(READ_POSITION, BYTES_10, 0, "READ POSITION, one object");
+    small(LOCATE, BYTES_10, UINT32_MAX, "LOCATE past the end of one object");
     free(image.at);
 
     image = make_image(20000, TILE, 0, (size_t)2 * TILE + 64);

@@ -33,15 +33,19 @@ static void tell(const char *name, enum again again, uint32_t objects, const str
 
 static const struct image none;
 
-/* A command on one partition, in the middle of so many objects. */
+/* A command on one partition, in the middle of so many objects; all are GOOD but LOCATE past them. */
 static void call_command(const char *name, enum again again, uint32_t objects, const uint8_t *block, size_t length)
 {
     static uint8_t data[LONG_BYTES];
     struct image made, image = make_lent(objects, &made);
+    int is_past = block[0] == LOCATE && get32(block + AT_OBJECT) > objects;
+    uint64_t answer;
     mount(&made, &none);
     put_position(objects / 2);
-    if (stormtoggle_command(record, RECORD_BYTES, block, length, image.at, image.length, NULL, 0, data, sizeof data,
-                            data, sizeof data) >> ANSWER_REFUSAL != 0)
+    answer = stormtoggle_command(record, RECORD_BYTES, block, length, image.at, image.length, NULL, 0, data,
+                                 sizeof data, data, sizeof data);
+    if (STORMTOGGLE_REFUSAL(answer) != 0 ||
+        STORMTOGGLE_STATUS(answer) != (is_past ? STORMTOGGLE_CHECK_CONDITION : STORMTOGGLE_GOOD))
         abort();
     tell(name, again, objects, &image);
 }
@@ -75,6 +79,7 @@ int main(void)
     static const uint8_t ready[BYTES_6] = {TEST_UNIT_READY}, rewinding[BYTES_6] = {REWIND};
     static const uint8_t position[BYTES_10] = {READ_POSITION};
     static const uint8_t locating[BYTES_10] = {[0] = LOCATE, [AT_OBJECT + 3] = 200};
+    static const uint8_t locating_past[BYTES_10] = {[0] = LOCATE, [AT_OBJECT] = 0xff};
     static const uint8_t locating_16[BYTES_16] = {[0] = LOCATE_16, [AT_IDENTIFIER + 7] = 200};
     /* Just after 625 filemarks, of which every sixteenth object is one; and on over as many. */
     static const uint8_t filing[BYTES_16] = {
@@ -89,6 +94,7 @@ int main(void)
     call_with_two_partitions(ready, sizeof ready, MANY, FEW);
     call_command("REWIND", NONE_AGAIN, MANY, rewinding, sizeof rewinding);
     call_command("LOCATE", NONE_AGAIN, MANY, locating, sizeof locating);
+    call_command("LOCATE past the end", SOME_AGAIN, MANY, locating_past, sizeof locating_past);
     call_command("LOCATE (16)", NONE_AGAIN, MANY, locating_16, sizeof locating_16);
     call_command("LOCATE (16) to file 625", WALKED_AGAIN, MANY, filing, sizeof filing);
     call_command("SPACE (16) over 625 filemarks", WALKED_AGAIN, MANY, spacing, sizeof spacing);

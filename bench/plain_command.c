@@ -63,17 +63,32 @@ static int is_record(const uint8_t *r, const uint8_t *p0, size_t p0_length, cons
     return position <= (current ? get32(p1 + p1_length - TRAILER_N) : get32(p0 + p0_length - TRAILER_N));
 }
 
+static int in_zone(const uint8_t *s, size_t length, uint32_t n)
+{
+    uint64_t end = n == 0 ? 0 : get32(s + length - TRAILER - ENTRY * (size_t)n) & ENTRY_END;
+    uint64_t room = length - TRAILER - ENTRY * (uint64_t)n - end;
+    return room * ZONE_SHARE < length - TRAILER;
+}
+
+static uint64_t go_to(uint8_t *r, const uint8_t *s, size_t length, uint8_t partition, uint32_t object)
+{
+    uint32_t n = get32(s + length - TRAILER_N);
+    r[STORMTOGGLE_RECORD_CURRENT] = partition;
+    put32(r + STORMTOGGLE_RECORD_POSITION, object < n ? object : n);
+    if (object <= n)
+        return good(r, 0);
+    return checked(r, in_zone(s, length, n) ? TOLD_END_IN_ZONE : TOLD_END_OF_DATA);
+}
+
 static uint64_t tell_position(uint8_t *r, const uint8_t *s, size_t length, unsigned form, uint8_t *out,
                               size_t out_length)
 {
     uint32_t n = get32(r + STORMTOGGLE_RECORD_POSITION), marks = 0;
     uint32_t size = form == FORM_SHORT ? SHORT_BYTES : LONG_BYTES;
-    uint64_t end = n == 0 ? 0 : get32(s + length - TRAILER - ENTRY * (size_t)n) & ENTRY_END;
-    uint64_t room = length - TRAILER - ENTRY * (uint64_t)n - end;
     if (out_length < size)
         return refused(BY_RECEIVED);
     memset(out, 0, size);
-    out[0] = (uint8_t)((n == 0 ? POSITION_BOP : 0) | (room * ZONE_SHARE < length - TRAILER ? POSITION_ZONE : 0));
+    out[0] = (uint8_t)((n == 0 ? POSITION_BOP : 0) | (in_zone(s, length, n) ? POSITION_ZONE : 0));
     if (form == FORM_SHORT) {
         out[SHORT_PARTITION] = r[STORMTOGGLE_RECORD_CURRENT];
         put32(out + SHORT_FIRST, n);
@@ -92,7 +107,7 @@ uint64_t plain_command(uint8_t *r, size_t r_length, const uint8_t *c, size_t c_l
                        uint8_t *p1, size_t p1_length, const uint8_t *sent, size_t sent_length, uint8_t *received,
                        size_t received_length)
 {
-    uint8_t attention, outside = 0;
+    uint8_t attention, partition, outside = 0;
     (void)sent, (void)sent_length;
     if (c_length == 0 || c_length < lengths[c[0]])
         return refused(BY_COMMAND);
@@ -130,6 +145,13 @@ uint64_t plain_command(uint8_t *r, size_t r_length, const uint8_t *c, size_t c_l
         if (r[STORMTOGGLE_RECORD_CURRENT])
             return tell_position(r, p1, p1_length, c[1], received, received_length);
         return tell_position(r, p0, p0_length, c[1], received, received_length);
+    case LOCATE:
+        partition = c[1] & CP ? c[AT_PARTITION] : r[STORMTOGGLE_RECORD_CURRENT];
+        if (!r[STORMTOGGLE_RECORD_LOADED])
+            return checked(r, TOLD_NOT_LOADED);
+        if (partition >= r[STORMTOGGLE_RECORD_PARTITIONS])
+            return checked(r, TOLD_FIELD);
+        return go_to(r, partition ? p1 : p0, partition ? p1_length : p0_length, partition, get32(c + AT_OBJECT));
     default:
         abort();
     }
