@@ -17,7 +17,7 @@ use Rattle.codes.specs.Codes.{codeOf, operationOf}
 use Rattle.codes.specs.Fields.{longOf}
 use Rattle.commands.specs.Stop.{Stop, refuse, attend, fault}
 use Rattle.commands.specs.Kinds.{erases}
-use Rattle.commands.specs.Act.{Seen, unattended, act, eventsOf}
+use Rattle.commands.specs.Act.{Seen, Deed, unattended, act, eventsOf}
 use Rattle.commands.specs.Tests.{tests}
 
 -- what a step leaves: its answer, the drive, the bytes laid over the front of the receiving buffer, what it does to the objects of the partition
@@ -57,17 +57,19 @@ stopped (refuse n) d = quietly (refused n) d
 stopped attend d = quietly checkAnswer (withSense (unattended d) (attentionSense (d .attention)))
 stopped (fault key asc ascq) d = quietly checkAnswer (withSense d (senseBytes (plainly key asc ascq)))
 
--- the act, with the kept sense replaced
+-- a deed of the command, with the kept sense replaced
+abbrev pub carriedOut : Operation → Drive → List ℕ → List ℕ → Seen → Deed → Stepped
+carriedOut o d cmd sent v e = record {
+  answer = answered (statusOf (e .tells)) (e .carried);
+  drive = withSense (e .drive) (keptOf (e .tells));
+  laid = e .received;
+  events = eventsOf o d cmd sent v;
+  clears = erases o && longOf cmd;
+}
+
+-- its act
 unfoldable pub acted : Operation → Drive → List ℕ → List ℕ → Seen → Stepped
-acted o d cmd sent v =
-    let e = act o d cmd sent v in
-    record {
-      answer = answered (statusOf (e .tells)) (e .carried);
-      drive = withSense (e .drive) (keptOf (e .tells));
-      laid = e .received;
-      events = eventsOf o d cmd sent v;
-      clears = erases o && longOf cmd;
-    }
+acted o d cmd sent v = carriedOut o d cmd sent v (act o d cmd sent v)
 
 -- the first test that holds decides; where none does, the command acts
 unfoldable pub unless : Option Stop → Drive → Stepped → Stepped

@@ -5,7 +5,7 @@ use Prim.Native.Nat.{ℕ, _≤_, _<_}
 use native.Mathlib.Omega.{arith}
 use mathlib.Core.Path.{_≡_, refl, sym, ap, _∙_, subst}
 use mathlib.Core.Logic.{_↔_}
-use mathlib.Core.Bool.{Bool, true, false, cond, _&&_}
+use mathlib.Core.Bool.{Bool, true, false, cond}
 use mathlib.Core.Option.{none, some}
 use mathlib.Core.List.{List, [], _∷_}
 use borrow.Author.Tests.{eqb-true, lt-ltb, ltb-true}
@@ -14,7 +14,7 @@ use lib.IntN.{ℤ, pos}
 use lib.ListN.{length, getD}
 use Rattle.words.specs.Words.{bytes, over}
 use Rattle.words.specs.Signed.{fits32}
-use Rattle.answers.specs.Answers.{checkCondition, answered, commandShort, recordFault, refused, first}
+use Rattle.answers.specs.Answers.{checkCondition, commandShort, recordFault, refused, first}
 use Rattle.objects.specs.Movement as M
 use Rattle.image.specs.Image.{count, zone}
 use Rattle.image.proofs.Facts.{sound-of}
@@ -27,12 +27,12 @@ use Rattle.record.specs.Record.{decodeOf, encodeOf, wellRecord, withSense}
 use Rattle.codes.specs.declared.operation.Operation.{Operation}
 use Rattle.codes.specs.declared.operation.Operation.the-variants.{Read, Space, Locate, Space16, Locate16}
 use Rattle.codes.specs.Codes.{numberOf, codeOf, tooShort, operationOf}
-use Rattle.codes.specs.Fields.{longOf, spaceCodeOf, spaceCountOf, spaceCount16Of}
-use Rattle.commands.specs.Kinds.{among, needsCartridge, erases, locates}
+use Rattle.codes.specs.Fields.{spaceCodeOf, spaceCountOf, spaceCount16Of}
+use Rattle.commands.specs.Kinds.{among, needsCartridge, locates}
 use Rattle.commands.specs.Stop.{Stop, refuse}
-use Rattle.commands.specs.Act.{Seen, Deed, eomAtEnd, toEnd, movement, spaceTells, spacing, act, eventsOf}
+use Rattle.commands.specs.Act.{Seen, Deed, eomAtEnd, toEnd, movement, spaceTells, spacing, act}
 use Rattle.commands.specs.Tests.{tests}
-use Rattle.commands.specs.Step.{Stepped, statusOf, keptOf, acted, unless, step}
+use Rattle.commands.specs.Step.{Stepped, statusOf, keptOf, carriedOut, acted, unless, step}
 use Rattle.commands.specs.Call.{Lent, outcome, Result, result, looksAt, seenOf, seen, faulty, laidOut, applied, stepOf, called, written, commandCall, commandTests}
 use Rattle.commands.proofs.Classes.{named}
 use Rattle.commands.proofs.Faultless.{Well, place-small, sense-whole, back, kept-whole, inside, sound-there, looks-in, seen-there}
@@ -45,7 +45,7 @@ use Rattle.history.proofs.Always.{acts-after}
 use Rattle.history.proofs.Ended.{Finished, by-number, by-sense, by-act, ended}
 use Rattle.history.proofs.ReadBack.{told-held}
 use Rattle.exact.specs.Senses.{senseAfter}
-use Rattle.exact.specs.EndOfData.{MeetsEnd, mayMeetEnd, lookedAt, EndsInZone, actBy, actedBy, callWith, callBy, never, byte2At, withByte2, endByte2}
+use Rattle.exact.specs.EndOfData.{MeetsEnd, mayMeetEnd, lookedAt, EndsInZone, actBy, callWith, callBy, never, byte2At, withByte2, endByte2}
 use Rattle.exact.proofs.Senses.{sense-back, after-act, told-test, heard}
 use Rattle.exact.proofs.Ruled.{deed, Ending, elsewhere, at-end, act-ends}
 use Rattle.exact.proofs.AtEnd.{act-stands}
@@ -101,10 +101,13 @@ module _ (rec : List ℕ) (x : Lent) where
   abbrev E : Deed
   E = act o d (x .cmd) (x .sent) v
 
-  -- ---- the call, by the step that its act makes
+  -- ---- the call, by the step that a deed makes
 
-  as-call : R ≡ callWith (acted o d (x .cmd) (x .sent) v) rec x
-  unfolding commandCall called stepOf step callWith
+  abbrev Done : Deed → Stepped
+  Done e = carriedOut o d (x .cmd) (x .sent) v e
+
+  as-call : R ≡ callWith (Done E) rec x
+  unfolding commandCall called stepOf step acted callWith
   as-call = refl
 
   stops-alike : (s : Stop) → first T ≡ some s → (t t′ : Stepped) → callWith t rec x ≡ callWith t′ rec x
@@ -134,21 +137,9 @@ module _ (rec : List ℕ) (x : Lent) where
       go false true e = absurd (unfold first in let z : _≡_ {A = ℕ} 0 1 = cc in omega arith)
       go false false e = unfold first unless in rw e refl
 
-  -- the step of a deed
-  abbrev stepOfDeed : Deed → Stepped
-  stepOfDeed e = record { answer = answered (statusOf (e .tells)) (e .carried); drive = withSense (e .drive) (keptOf (e .tells)); laid = e .received; events = eventsOf o d (x .cmd) (x .sent) v; clears = erases o && longOf (x .cmd) }
-
-  call-of : R ≡ callWith (stepOfDeed E) rec x
-  unfolding acted
-  call-of = as-call
-
-  by-of : (rule : Seen → Bool) → callBy rule rec x ≡ callWith (stepOfDeed (actBy rule o d (x .cmd) (x .sent) v)) rec x
-  unfolding actedBy
-  by-of rule = refl
-
   -- what is left where end of data is met, with the bit e
   abbrev Left : Drive → Bool → ℤ → Bool → List ℕ → ℕ → Result
-  Left f counts z e b n = written rec (applied (stepOfDeed (deed f (some (endSense counts z e)) b n)) (looksAt o d (x .cmd)) x)
+  Left f counts z e b n = written rec (applied (Done (deed f (some (endSense counts z e)) b n)) (looksAt o d (x .cmd)) x)
 
   left-byte : (f : Drive) (counts : Bool) (z : ℤ) (e g : Bool) (b : List ℕ) (n : ℕ) → Left f counts z e b n ≡ withByte2 (endByte2 e) (Left f counts z g b n)
   unfolding applied laidOut statusOf keptOf
@@ -193,9 +184,9 @@ module _ (rec : List ℕ) (x : Lent) where
       stops s e = not-there (stopped-not s e) (stops-alike s e _ _ ∙ sym as-call)
 
       acts : first T ≡ none → Well d (x .part0) (x .part1) → first (tests o d (x .cmd) v (x .sent) (length (x .received))) ≡ none → Ending rule o v E (actBy rule o d (x .cmd) (x .sent) v) → Ends rule
-      acts e w q (elsewhere h g) = not-there (λ m. h (senseAfter R) (heard rec x e (m .0)) (m .1 .0)) (by-of rule ∙ ap (λ (y : Deed). callWith (stepOfDeed y) rec x) g ∙ sym call-of)
+      acts e w q (elsewhere h g) = not-there (λ m. h (senseAfter R) (heard rec x e (m .0)) (m .1 .0)) (ap (λ (y : Deed). callWith (Done y) rec x) g ∙ sym as-call)
       acts e w q (at-end h f counts z b n g k) =
-          there h f counts z b n w q (call-of ∙ ap (λ (y : Deed). callWith (stepOfDeed y) rec x) g ∙ acts-so e _) (by-of rule ∙ ap (λ (y : Deed). callWith (stepOfDeed y) rec x) k ∙ acts-so e _)
+          there h f counts z b n w q (as-call ∙ ap (λ (y : Deed). callWith (Done y) rec x) g ∙ acts-so e _) (ap (λ (y : Deed). callWith (Done y) rec x) k ∙ acts-so e _)
 
       go : Finished rec (x .cmd) (x .part0) (x .part1) (x .sent) (x .received) → Ends rule
       go (by-number n h e c) = stops _ e

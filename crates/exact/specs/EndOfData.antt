@@ -2,14 +2,14 @@
 -- can be put side by side.
 -- Assumes nothing: these are definitions.
 use Prim.Native.Nat.{ℕ, _+_, _-_, _*_, _<_}
-use mathlib.Core.Bool.{Bool, true, false, cond, _&&_}
+use mathlib.Core.Bool.{Bool, true, false, cond}
 use mathlib.Core.Option.{Option, none, some}
 use mathlib.Core.List.{List, [], _∷_}
 use lib.Dec.{eqb}
 use lib.IntN.{ℤ, pos, negsuc, subℕ}
 use lib.ListN.{length, drop, getElem?}
 use Rattle.words.specs.Words.{over}
-use Rattle.answers.specs.Answers.{commandShort, recordFault, refused, answered, first}
+use Rattle.answers.specs.Answers.{commandShort, recordFault, refused, first}
 use Rattle.objects.specs.Object.{Object}
 use Rattle.objects.specs.Movement as M
 use Rattle.objects.specs.Room.{trailerLength, warningShare}
@@ -18,15 +18,15 @@ use Rattle.image.specs.Image.{count, room}
 use Rattle.sense.specs.declared.Sense.{Sense}
 use Rattle.sense.specs.Sense.{blankCheck, noAdditional, endOfDataDetected, eomBit, told}
 use Rattle.record.specs.declared.drive.Drive.{Drive}
-use Rattle.record.specs.Record.{senseAt, decodeOf, wellRecord, withSense}
+use Rattle.record.specs.Record.{senseAt, decodeOf, wellRecord}
 use Rattle.codes.specs.declared.operation.Operation.{Operation}
 use Rattle.codes.specs.declared.operation.Operation.the-variants.{Read, Space, Locate, Space16, Locate16}
 use Rattle.codes.specs.Codes.{codeOf, tooShort, operationOf}
-use Rattle.codes.specs.Fields.{fixedOf, transferOf, longOf, spaceCodeOf, spaceCountOf, spaceCount16Of, objectOf}
-use Rattle.commands.specs.Kinds.{among, erases}
-use Rattle.commands.specs.Act.{Seen, Deed, good, checked, at, atPartition, filemarkMet, oddMet, beginningMet, readVariable, movement, targetOf, destination16, act, eventsOf}
+use Rattle.codes.specs.Fields.{fixedOf, transferOf, spaceCodeOf, spaceCountOf, spaceCount16Of, objectOf}
+use Rattle.commands.specs.Kinds.{among}
+use Rattle.commands.specs.Act.{Seen, Deed, good, checked, at, atPartition, filemarkMet, oddMet, beginningMet, readVariable, movement, targetOf, destination16, act}
 use Rattle.commands.specs.Tests.{tests}
-use Rattle.commands.specs.Step.{Stepped, statusOf, keptOf, unless}
+use Rattle.commands.specs.Step.{Stepped, carriedOut, unless}
 use Rattle.commands.specs.Call.{Lent, outcome, Result, result, partition, looksAt, seen, faulty, applied, written}
 use Rattle.exact.specs.Senses.{Tells}
 
@@ -107,17 +107,6 @@ module _ (rule : Seen → Bool) where
       (cond (among (Locate16 ∷ []) o) (locatingBy d (targetOf Locate16 d cmd) (destination16 cmd) v)
       (act o d cmd sent v)))))
 
-  unfoldable pub actedBy : Operation → Drive → List ℕ → List ℕ → Seen → Stepped
-  actedBy o d cmd sent v =
-      let e = actBy o d cmd sent v in
-      record {
-        answer = answered (statusOf (e .tells)) (e .carried);
-        drive = withSense (e .drive) (keptOf (e .tells));
-        laid = e .received;
-        events = eventsOf o d cmd sent v;
-        clears = erases o && longOf cmd;
-      }
-
 -- the call, with the step t where its command acts
 unfoldable pub callWith : Stepped → List ℕ → Lent → Result
 callWith t rec x =
@@ -132,7 +121,7 @@ abbrev pub callBy : (Seen → Bool) → List ℕ → Lent → Result
 callBy rule rec x =
     let o = operationOf (codeOf (x .cmd)) in
     let d = decodeOf rec in
-    callWith (actedBy rule o d (x .cmd) (x .sent) (seen o d x)) rec x
+    callWith (carriedOut o d (x .cmd) (x .sent) (seen o d x) (actBy rule o d (x .cmd) (x .sent) (seen o d x))) rec x
 
 -- 01, before Q-2: "EOM 0 (H)"
 abbrev pub never : Seen → Bool
