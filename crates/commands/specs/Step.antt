@@ -58,8 +58,8 @@ stopped attend d = quietly checkAnswer (withSense (unattended d) (attentionSense
 stopped (fault key asc ascq) d = quietly checkAnswer (withSense d (senseBytes (plainly key asc ascq)))
 
 -- a deed of the command, with the kept sense replaced
-abbrev pub carriedOut : Operation → Drive → List ℕ → List ℕ → Seen → Deed → Stepped
-carriedOut o d cmd sent v e = record {
+abbrev pub steppedBy : Operation → Drive → List ℕ → List ℕ → Seen → Deed → Stepped
+steppedBy o d cmd sent v e = record {
   answer = answered (statusOf (e .tells)) (e .carried);
   drive = withSense (e .drive) (keptOf (e .tells));
   laid = e .received;
@@ -69,7 +69,7 @@ carriedOut o d cmd sent v e = record {
 
 -- its act
 unfoldable pub acted : Operation → Drive → List ℕ → List ℕ → Seen → Stepped
-acted o d cmd sent v = carriedOut o d cmd sent v (act o d cmd sent v)
+acted o d cmd sent v = steppedBy o d cmd sent v (act o d cmd sent v)
 
 -- the first test that holds decides; where none does, the command acts
 unfoldable pub unless : Option Stop → Drive → Stepped → Stepped

@@ -21,7 +21,8 @@ use Rattle.codes.specs.Fields.{fixedOf, transferOf, spaceCodeOf, spaceCountOf, 
 use Rattle.commands.specs.Kinds.{locates}
 use Rattle.commands.specs.Act.{Seen, Deed, good, checked, at, oddMet, hidden, readRun, readVariable, runTells, reading, overBlocks, toEnd, spaceTells, movement, spacing, targetOf, destination16, locateTells, locating, act}
 use Rattle.commands.specs.Call.{looksAt}
-use Rattle.exact.proofs.Ruled.{silent, another, write-elsewhere, marks-elsewhere, select-elsewhere}
+use Rattle.exact.proofs.Tells.{act-tells}
+use Rattle.exact.proofs.Ruled.{silent, another, never-there}
 
 -- ---- what went on until nothing was left crossed all that was ahead
 
@@ -154,10 +155,10 @@ module _ (d : Drive) (cmd sent : List ℕ) (v : Seen) where
   act-stands RequestSense h = λ s e k. absurd (silent s e k)
   act-stands ReadBlockLimits h = λ s e k. absurd (silent s e k)
   act-stands Read h = read-stands d v (h refl) cmd
-  act-stands Write h = λ s e k. absurd (write-elsewhere d cmd sent v s e k)
-  act-stands WriteFilemarks h = λ s e k. absurd (marks-elsewhere d cmd sent v s e k)
+  act-stands Write h = λ s e k. absurd (never-there Write refl _ (act-tells d cmd sent v Write) s e k)
+  act-stands WriteFilemarks h = λ s e k. absurd (never-there WriteFilemarks refl _ (act-tells d cmd sent v WriteFilemarks) s e k)
   act-stands Space h = space-stands d v (h refl) (spaceCodeOf cmd) (spaceCountOf cmd)
-  act-stands ModeSelect h = λ s e k. absurd (select-elsewhere d cmd sent v s e k)
+  act-stands ModeSelect h = λ s e k. absurd (never-there ModeSelect refl _ (act-tells d cmd sent v ModeSelect) s e k)
   act-stands Erase h = λ s e k. absurd (silent s e k)
   act-stands ModeSense h = λ s e k. absurd (silent s e k)
   act-stands LoadUnload h = λ s e k. absurd (silent s e k)

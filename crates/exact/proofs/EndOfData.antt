@@ -25,14 +25,14 @@ use Rattle.sense.proofs.RoundTrip.{parts-made}
 use Rattle.record.specs.declared.drive.Drive.{Drive}
 use Rattle.record.specs.Record.{decodeOf, encodeOf, wellRecord, withSense}
 use Rattle.codes.specs.declared.operation.Operation.{Operation}
-use Rattle.codes.specs.declared.operation.Operation.the-variants.{Read, Space, Locate, Space16, Locate16}
+use Rattle.codes.specs.declared.operation.Operation.the-variants.{Space, Space16}
 use Rattle.codes.specs.Codes.{numberOf, codeOf, tooShort, operationOf}
 use Rattle.codes.specs.Fields.{spaceCodeOf, spaceCountOf, spaceCount16Of}
 use Rattle.commands.specs.Kinds.{among, needsCartridge, locates}
 use Rattle.commands.specs.Stop.{Stop, refuse}
 use Rattle.commands.specs.Act.{Seen, Deed, eomAtEnd, toEnd, movement, spaceTells, spacing, act}
 use Rattle.commands.specs.Tests.{tests}
-use Rattle.commands.specs.Step.{Stepped, statusOf, keptOf, carriedOut, acted, unless, step}
+use Rattle.commands.specs.Step.{Stepped, statusOf, keptOf, steppedBy, acted, unless, step}
 use Rattle.commands.specs.Call.{Lent, outcome, Result, result, looksAt, seenOf, seen, faulty, laidOut, applied, stepOf, called, written, commandCall, commandTests}
 use Rattle.commands.proofs.Classes.{named}
 use Rattle.commands.proofs.Faultless.{Well, place-small, sense-whole, back, kept-whole, inside, sound-there, looks-in, seen-there}
@@ -45,7 +45,7 @@ use Rattle.history.proofs.Always.{acts-after}
 use Rattle.history.proofs.Ended.{Finished, by-number, by-sense, by-act, ended}
 use Rattle.history.proofs.ReadBack.{told-held}
 use Rattle.exact.specs.Senses.{senseAfter}
-use Rattle.exact.specs.EndOfData.{MeetsEnd, mayMeetEnd, lookedAt, EndsInZone, actBy, callWith, callBy, never, byte2At, withByte2, endByte2}
+use Rattle.exact.specs.EndOfData.{MeetsEnd, meetingEnd, mayMeetEnd, lookedAt, EndsInZone, actBy, callWith, callBy, never, byte2At, withByte2, endByte2}
 use Rattle.exact.proofs.Senses.{sense-back, after-act, told-test, heard}
 use Rattle.exact.proofs.Ruled.{deed, Ending, elsewhere, at-end, act-ends}
 use Rattle.exact.proofs.AtEnd.{act-stands}
@@ -70,16 +70,16 @@ unfolding reports fits32
 key-not-told k h e = let z : true ≡ false = subst (λ (n : ℕ). reports true n (pos 0) ≡ false) e (h (pos 0)) in let y : _≡_ {A = ℕ} 0 1 = cc in omega arith
 
 -- what holds of all of a list holds of one of them
-abbrev All : (Operation → Bool) → List Operation → Type 0
-All f [] = Unit {0}
-All f (k ∷ ks) = (f k ≡ true) × All f ks
+abbrev All : (Operation → Type 0) → List Operation → Type 0
+All P [] = Unit {0}
+All P (k ∷ ks) = P k × All P ks
 
-of-all : (f : Operation → Bool) (o : Operation) (ks : List Operation) → All f ks → among ks o ≡ true → f o ≡ true
-of-all f o [] h e = absurd (let z : _≡_ {A = ℕ} 0 1 = cc in omega arith)
-of-all f o (k ∷ ks) h e = go (eqb (numberOf o) (numberOf k)) refl e (of-all f o ks (h .1))
+of-all : (P : Operation → Type 0) (o : Operation) (ks : List Operation) → All P ks → among ks o ≡ true → P o
+of-all P o [] h e = absurd (let z : _≡_ {A = ℕ} 0 1 = cc in omega arith)
+of-all P o (k ∷ ks) h e = go (eqb (numberOf o) (numberOf k)) refl e (of-all P o ks (h .1))
   where
-    go : (t : Bool) → eqb (numberOf o) (numberOf k) ≡ t → cond t true (among ks o) ≡ true → (among ks o ≡ true → f o ≡ true) → f o ≡ true
-    go true q e ih = ap f (named o k (numberOf o) refl (eqb-true (numberOf o) (numberOf k) q)) ∙ h .0
+    go : (t : Bool) → eqb (numberOf o) (numberOf k) ≡ t → cond t true (among ks o) ≡ true → (among ks o ≡ true → P o) → P o
+    go true q e ih = subst P (sym (named o k (numberOf o) refl (eqb-true (numberOf o) (numberOf k) q))) (h .0)
     go false q e ih = ih e
 
 module _ (rec : List ℕ) (x : Lent) where
@@ -104,7 +104,7 @@ module _ (rec : List ℕ) (x : Lent) where
   -- ---- the call, by the step that a deed makes
 
   abbrev Done : Deed → Stepped
-  Done e = carriedOut o d (x .cmd) (x .sent) v e
+  Done e = steppedBy o d (x .cmd) (x .sent) v e
 
   as-call : R ≡ callWith (Done E) rec x
   unfolding commandCall called stepOf step acted callWith
@@ -167,10 +167,10 @@ module _ (rec : List ℕ) (x : Lent) where
 
   -- ---- how the call ends, by what Q-2 speaks of
 
-  pub data Ends (rule : Seen → Bool) : Type 0 where
+  data Ends (rule : Seen → Bool) : Type 0 where
     -- not at end of data: the same by every rule
     not-there : (MeetsEnd R → ⊥) → callBy rule rec x ≡ R → Ends rule
-    there : mayMeetEnd o ≡ true → (f : Drive) (counts : Bool) (z : ℤ) (b : List ℕ) (n : ℕ) → Well d (x .part0) (x .part1)
+    there : mayMeetEnd o ≡ true → (f : Drive) (counts : Bool) (z : ℤ) (b : List ℕ) (n : ℕ) → first T ≡ none → Well d (x .part0) (x .part1)
         → first (tests o d (x .cmd) v (x .sent) (length (x .received))) ≡ none → R ≡ Left f counts z (eomAtEnd v) b n → callBy rule rec x ≡ Left f counts z (rule v) b n → Ends rule
 
   stopped-not : (s : Stop) → first T ≡ some s → MeetsEnd R → ⊥
@@ -186,7 +186,7 @@ module _ (rec : List ℕ) (x : Lent) where
       acts : first T ≡ none → Well d (x .part0) (x .part1) → first (tests o d (x .cmd) v (x .sent) (length (x .received))) ≡ none → Ending rule o v E (actBy rule o d (x .cmd) (x .sent) v) → Ends rule
       acts e w q (elsewhere h g) = not-there (λ m. h (senseAfter R) (heard rec x e (m .0)) (m .1 .0)) (ap (λ (y : Deed). callWith (Done y) rec x) g ∙ sym as-call)
       acts e w q (at-end h f counts z b n g k) =
-          there h f counts z b n w q (as-call ∙ ap (λ (y : Deed). callWith (Done y) rec x) g ∙ acts-so e _) (ap (λ (y : Deed). callWith (Done y) rec x) k ∙ acts-so e _)
+          there h f counts z b n e w q (as-call ∙ ap (λ (y : Deed). callWith (Done y) rec x) g ∙ acts-so e _) (ap (λ (y : Deed). callWith (Done y) rec x) k ∙ acts-so e _)
 
       go : Finished rec (x .cmd) (x .part0) (x .part1) (x .sent) (x .received) → Ends rule
       go (by-number n h e c) = stops _ e
@@ -200,7 +200,7 @@ module _ (rec : List ℕ) (x : Lent) where
     where
       go : Ends eomAtEnd → callBy eomAtEnd rec x ≡ R
       go (not-there h e) = e
-      go (there h f c z b n w q e g) = g ∙ sym e
+      go (there h f c z b n t w q e g) = g ∙ sym e
 
   -- ---- "READ, SPACE or LOCATE meets end of data": these alone
 
@@ -209,12 +209,12 @@ module _ (rec : List ℕ) (x : Lent) where
     where
       go : Ends never → mayMeetEnd o ≡ true
       go (not-there h e) = absurd (h m)
-      go (there h f c z b n w q e g) = h
+      go (there h f c z b n t w q e g) = h
 
   -- ---- "Set it exactly when position N of the partition is in the zone"
 
   is-loaded : mayMeetEnd o ≡ true → first (tests o d (x .cmd) v (x .sent) (length (x .received))) ≡ none → d .loaded ≡ 0 → ⊥
-  is-loaded h q = has-cartridge d (x .cmd) (x .sent) (length (x .received)) v o (of-all needsCartridge o (Read ∷ Space ∷ Locate ∷ Space16 ∷ Locate16 ∷ []) (refl, (refl, (refl, (refl, (refl, tt))))) h) q
+  is-loaded h q = has-cartridge d (x .cmd) (x .sent) (length (x .received)) v o (of-all (λ (k : Operation). needsCartridge k ≡ true) o meetingEnd (refl, (refl, (refl, (refl, (refl, tt))))) h) q
 
   is-there : mayMeetEnd o ≡ true → Well d (x .part0) (x .part1) → first (tests o d (x .cmd) v (x .sent) (length (x .received))) ≡ none → looksAt o d (x .cmd) < d .partitions
   is-there h w q = looks-in o d (x .cmd) (inside d (x .part0) (x .part1) (w .cart) (is-loaded h q) .there) (passed o d (x .cmd) v (x .sent) (length (x .received)) q .there)
@@ -231,7 +231,7 @@ module _ (rec : List ℕ) (x : Lent) where
     where
       go : Ends never → senseAfter R .eom ≡ zone (lookedAt rec x) (count (lookedAt rec x))
       go (not-there h e) = absurd (h m)
-      go (there h f c z b n w q e g) = ap (λ (r : Result). senseAfter r .eom) e ∙ ap (λ (s : Sense). s .eom) (left-tells f c z (eomAtEnd v) b n) ∙ sym (sees-it h w q)
+      go (there h f c z b n t w q e g) = ap (λ (r : Result). senseAfter r .eom) e ∙ ap (λ (s : Sense). s .eom) (left-tells f c z (eomAtEnd v) b n) ∙ sym (sees-it h w q)
 
   pub eom-exactly : MeetsEnd R → (senseAfter R .eom ≡ true) ↔ EndsInZone (lookedAt rec x)
   unfolding zone
@@ -255,12 +255,11 @@ module _ (rec : List ℕ) (x : Lent) where
       in-place n = place rec x w o q (current n) (is-loaded (met-by m) q)
 
   pub met-at-n : MeetsEnd R → (decodeOf (R .rec) .current ≡ looksAt (operationOf (codeOf (x .cmd))) (decodeOf rec) (x .cmd)) × (decodeOf (R .rec) .position ≡ count (lookedAt rec x))
-  met-at-n m = go (ended rec (x .cmd) (x .part0) (x .part1) (x .sent) (x .received))
+  met-at-n m = go (ends never)
     where
-      go : Finished rec (x .cmd) (x .part0) (x .part1) (x .sent) (x .received) → (decodeOf (R .rec) .current ≡ looksAt o d (x .cmd)) × (decodeOf (R .rec) .position ≡ count (lookedAt rec x))
-      go (by-number n h e c) = absurd (stopped-not _ e m)
-      go (by-sense s e f b w p l c) = absurd (stopped-not s e m)
-      go (by-act e w q c) = let t = stands e w q m in (t .0, t .1 ∙ ap (λ (y : Seen). length (y .objects)) (seen-so (met-by m) w q) ∙ unfold seenOf in length-objects (lookedAt rec x))
+      go : Ends never → (decodeOf (R .rec) .current ≡ looksAt o d (x .cmd)) × (decodeOf (R .rec) .position ≡ count (lookedAt rec x))
+      go (not-there h e) = absurd (h m)
+      go (there h f c z b n t w q e g) = let s = stands t w q m in (s .0, s .1 ∙ ap (λ (y : Seen). length (y .objects)) (seen-so h w q) ∙ unfold seenOf in length-objects (lookedAt rec x))
 
   -- ---- and nothing else of any outcome: beside the call as 01 had it
 
@@ -269,14 +268,14 @@ module _ (rec : List ℕ) (x : Lent) where
     where
       go : Ends never → R ≡ callBy never rec x
       go (not-there k e) = sym e
-      go (there k f c z b n w q e g) = absurd (h (subst MeetsEnd (sym e) (left-meets f c z (eomAtEnd v) b n)))
+      go (there k f c z b n t w q e g) = absurd (h (subst MeetsEnd (sym e) (left-meets f c z (eomAtEnd v) b n)))
 
   pub meets-as-before : MeetsEnd R ↔ MeetsEnd (callBy never rec x)
   meets-as-before = go (ends never)
     where
       go : Ends never → MeetsEnd R ↔ MeetsEnd (callBy never rec x)
       go (not-there k e) = (subst MeetsEnd (sym e), subst MeetsEnd e)
-      go (there k f c z b n w q e g) = ((λ m. subst MeetsEnd (sym g) (left-meets f c z false b n)), (λ m. subst MeetsEnd (sym e) (left-meets f c z (eomAtEnd v) b n)))
+      go (there k f c z b n t w q e g) = ((λ m. subst MeetsEnd (sym g) (left-meets f c z false b n)), (λ m. subst MeetsEnd (sym e) (left-meets f c z (eomAtEnd v) b n)))
 
   -- 08h there was, and is, but in the zone, where it is 48h
   pub one-bit : MeetsEnd R
@@ -285,7 +284,7 @@ module _ (rec : List ℕ) (x : Lent) where
     where
       go : Ends never → (getD (callBy never rec x .rec) byte2At 0 ≡ endByte2 false) × (R ≡ withByte2 (endByte2 (zone (lookedAt rec x) (count (lookedAt rec x)))) (callBy never rec x))
       go (not-there k e) = absurd (k m)
-      go (there k f c z b n w q e g) = (
+      go (there k f c z b n t w q e g) = (
         ap (λ (r : Result). getD (r .rec) byte2At 0) g ∙ left-kept f c z false b n,
         e ∙ left-byte f c z (eomAtEnd v) false b n ∙ ap (λ (t : Bool). withByte2 (endByte2 t) (Left f c z false b n)) (sym (sees-it k w q))
             ∙ ap (withByte2 (endByte2 (zone (lookedAt rec x) (count (lookedAt rec x))))) (sym g),
@@ -302,13 +301,8 @@ module _ (rec : List ℕ) (x : Lent) where
   unfolding statusOf keptOf
   to-end-good h c e = let a = after-act rec x e in (a .0 ∙ ap statusOf silent-so, a .1 ∙ ap keptOf silent-so)
     where
-      by : (b k : Operation) → k ≡ b → act b d (x .cmd) (x .sent) v .tells ≡ none → act k d (x .cmd) (x .sent) v .tells ≡ none
-      by b k q g = rw q g
-
-      of : (k : Operation) → (t u : Bool) → eqb (numberOf k) (numberOf Space) ≡ t → eqb (numberOf k) (numberOf Space16) ≡ u → cond t true (cond u true false) ≡ true → act k d (x .cmd) (x .sent) v .tells ≡ none
-      of k true u q r g = by Space k (named k Space (numberOf k) refl (eqb-true (numberOf k) (numberOf Space) q)) (unfold act in rw c (to-end-silent (spaceCountOf (x .cmd))))
-      of k false true q r g = by Space16 k (named k Space16 (numberOf k) refl (eqb-true (numberOf k) (numberOf Space16) r)) (unfold act in rw c (to-end-silent (spaceCount16Of (x .cmd))))
-      of k false false q r g = absurd (let z : _≡_ {A = ℕ} 0 1 = cc in omega arith)
+      Silent : Operation → Type 0
+      Silent k = act k d (x .cmd) (x .sent) v .tells ≡ none
 
       silent-so : E .tells ≡ none
-      silent-so = of o _ _ refl refl h
+      silent-so = of-all Silent o (Space ∷ Space16 ∷ []) (unfold act in rw c (to-end-silent (spaceCountOf (x .cmd))), (unfold act in rw c (to-end-silent (spaceCount16Of (x .cmd))), tt)) h

@@ -1,27 +1,27 @@
 -- An act by another rule for EOM at end of data: the same, or both meet end of data and differ in what the rule says of that bit.
 -- Assumes nothing.
-use Prim.Native.Nat.{ℕ, suc, _+_}
+use Prim.Native.Nat.{ℕ, suc}
 use native.Mathlib.Omega.{arith}
-use mathlib.Core.Path.{_≡_, refl, ap, _∙_}
+use mathlib.Core.Path.{_≡_, refl, sym, ap, _∙_}
 use mathlib.Core.Bool.{Bool, true, false, cond, _||_}
 use mathlib.Core.Option.{Option, none, some}
 use mathlib.Core.List.{List, []}
 use lib.Dec.{eqb}
 use lib.IntN.{ℤ, pos, negsuc, subℕ}
-use lib.ListN.{length, take, drop, getElem?}
-use Rattle.objects.specs.Object.{Object, filemark, block, bytesIn}
+use lib.ListN.{length, drop, getElem?}
+use Rattle.objects.specs.Object.{Object, filemark, block}
 use Rattle.objects.specs.Movement as M
-use Rattle.objects.specs.Room.{roomOf, zoneIn}
 use Rattle.objects.specs.Transfer.{Ended, whole, oddLength, atFilemark, atEnd, Run, runOf}
+use Rattle.answers.proofs.First.{not-both}
 use Rattle.sense.specs.declared.Sense.{Sense}
-use Rattle.sense.specs.Sense.{blankCheck, illegalRequest, invalidListField, unqualified, told, plainly}
+use Rattle.sense.specs.Sense.{blankCheck, told}
 use Rattle.record.specs.declared.drive.Drive.{Drive}
 use Rattle.codes.specs.declared.operation.Operation.{Operation}
 use Rattle.codes.specs.declared.operation.Operation.the-variants.{TestUnitReady, Rewind, RequestSense, ReadBlockLimits, Read, Write, WriteFilemarks, Space, ModeSelect, Erase, ModeSense, LoadUnload, Locate, ReadPosition, Space16, Locate16, NotServed}
-use Rattle.codes.specs.Fields.{fixedOf, transferOf, spaceCodeOf, spaceCountOf, spaceCount16Of, objectOf, allocationOf}
-use Rattle.commands.specs.Parameters.{wholeLength, listRight, newLength}
-use Rattle.commands.specs.Act.{Seen, Deed, good, checked, carrying, at, atPartition, endTold, oddMet, warned, overflowed, hidden, readRun, readVariable, runTells, reading, goesDown, wrote, writing, marking, spaceTells, movement, spacing, targetOf, destination16, locateTells, locating, selecting, withLength, act}
+use Rattle.codes.specs.Fields.{fixedOf, transferOf, spaceCodeOf, spaceCountOf, spaceCount16Of, objectOf}
+use Rattle.commands.specs.Act.{Seen, Deed, good, checked, at, atPartition, endTold, oddMet, hidden, readRun, readVariable, runTells, reading, spaceTells, movement, spacing, targetOf, destination16, locateTells, locating, act}
 use Rattle.exact.specs.EndOfData.{mayMeetEnd, endToldBy, readVariableBy, runTellsBy, readRunBy, readingBy, spaceTellsBy, spacingBy, locateTellsBy, locatingBy, actBy}
+use Rattle.exact.proofs.Tells.{ToldBy, act-tells}
 
 abbrev pub deed : Drive → Option Sense → List ℕ → ℕ → Deed
 deed d t b n = record { drive = d; tells = t; received = b; carried = n }
@@ -38,44 +38,13 @@ pub another : (c f e i : Bool) (key asc ascq : ℕ) (z : ℤ) → (key ≡ blank
 unfolding told
 another c f e i key asc ascq z h s q k = let y : told c f e i key asc ascq z ≡ s = cc in h (ap (λ (t : Sense). t .key) y ∙ k)
 
-module _ (d : Drive) (cmd sent : List ℕ) (v : Seen) where
-  wrote-elsewhere : (n : ℕ) (os : List Object) (z : ℤ) → Elsewhere ((wrote d v n os z) .tells)
-  unfolding wrote
-  wrote-elsewhere n os z = go (eqb (length os) n) (zoneIn (v .size) (roomOf (v .size) (d .position + length os) (bytesIn (take (d .position) (v .objects)) + bytesIn os)))
-    where
-      there : Drive
-      there = at d (d .position + length os)
-
-      go : (t w : Bool) → Elsewhere ((cond t (cond w (checked there warned) (good there)) (checked there (overflowed z))) .tells)
-      go true true = another _ _ _ _ _ _ _ _ (λ e. omega arith)
-      go true false = silent
-      go false w = another _ _ _ _ _ _ _ _ (λ e. omega arith)
-
-  pub write-elsewhere : Elsewhere ((writing d cmd sent v) .tells)
-  unfolding writing
-  write-elsewhere = go (eqb (transferOf cmd) 0) (fixedOf cmd) (goesDown Write d cmd sent v)
-    where
-      go : (z f : Bool) (os : List Object) → Elsewhere ((cond z (good d) (carrying (bytesIn os) (cond f (wrote d v (transferOf cmd) os (subℕ (transferOf cmd) (length os))) (wrote d v 1 os (subℕ (transferOf cmd) (bytesIn os)))))) .tells)
-      go true f os = silent
-      go false true os = wrote-elsewhere _ _ _
-      go false false os = wrote-elsewhere _ _ _
-
-  pub marks-elsewhere : Elsewhere ((marking d cmd sent v) .tells)
-  unfolding marking
-  marks-elsewhere = go (eqb (transferOf cmd) 0) (goesDown WriteFilemarks d cmd sent v)
-    where
-      go : (z : Bool) (os : List Object) → Elsewhere ((cond z (good d) (wrote d v (transferOf cmd) os (subℕ (transferOf cmd) (length os)))) .tells)
-      go true os = silent
-      go false os = wrote-elsewhere _ _ _
-
-  pub select-elsewhere : Elsewhere ((selecting d cmd sent) .tells)
-  unfolding selecting
-  select-elsewhere = go (eqb (allocationOf cmd) 0) (listRight (allocationOf cmd) sent) (allocationOf cmd) (cond (eqb (allocationOf cmd) wholeLength) (withLength d (newLength sent)) d)
-    where
-      go : (z r : Bool) (n : ℕ) (e : Drive) → Elsewhere ((cond z (good d) (cond r (carrying n (good e)) (checked d (plainly illegalRequest invalidListField unqualified)))) .tells)
-      go true r n e = silent
-      go false true n e = silent
-      go false false n e = another _ _ _ _ _ _ _ _ (λ e. omega arith)
+-- so by every command that may not meet end of data
+pub never-there : (o : Operation) → mayMeetEnd o ≡ false → (t : Option Sense) → ToldBy o t → Elsewhere t
+unfolding told
+never-there o h none u s q k = silent s q k
+never-there o h (some r) u s q k =
+    let y : r ≡ s = cc in
+    not-both (sym (u .at-end (ap (λ (t : Sense). t .key) (sym (u .is) ∙ y) ∙ k)) ∙ h)
 
 -- ---- the act as it is, and by the rule
 
@@ -143,10 +112,10 @@ module _ (rule : Seen → Bool) (d : Drive) (cmd sent : List ℕ) (v : Seen) whe
   act-ends RequestSense = elsewhere silent refl
   act-ends ReadBlockLimits = elsewhere silent refl
   act-ends Read = read-ends
-  act-ends Write = elsewhere (write-elsewhere d cmd sent v) refl
-  act-ends WriteFilemarks = elsewhere (marks-elsewhere d cmd sent v) refl
+  act-ends Write = elsewhere (never-there Write refl _ (act-tells d cmd sent v Write)) refl
+  act-ends WriteFilemarks = elsewhere (never-there WriteFilemarks refl _ (act-tells d cmd sent v WriteFilemarks)) refl
   act-ends Space = space-ends Space refl (spaceCodeOf cmd) (spaceCountOf cmd)
-  act-ends ModeSelect = elsewhere (select-elsewhere d cmd sent v) refl
+  act-ends ModeSelect = elsewhere (never-there ModeSelect refl _ (act-tells d cmd sent v ModeSelect)) refl
   act-ends Erase = elsewhere silent refl
   act-ends ModeSense = elsewhere silent refl
   act-ends LoadUnload = elsewhere silent refl

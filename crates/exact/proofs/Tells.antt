@@ -1,4 +1,5 @@
--- What an act may tell: always by `told`, counting for READ, WRITE, WRITE FILEMARKS and SPACE of either length alone, and never what only a test tells.
+-- What an act may tell: always by `told`, counting for READ, WRITE, WRITE FILEMARKS and SPACE of either length alone, key 8 by READ, SPACE and LOCATE
+-- alone, and never what only a test tells.
 -- Assumes nothing.
 use Prim.Native.Nat.{ℕ, suc, _+_, _<_}
 use mathlib.Core.Path.{_≡_, refl, sym, ap}
@@ -23,6 +24,7 @@ use Rattle.codes.specs.Fields.{fixedOf, transferOf, spaceCodeOf, spaceCountOf, 
 use Rattle.commands.specs.Parameters.{wholeLength, listRight, newLength}
 use Rattle.commands.specs.Act.{Seen, good, checked, carrying, readRun, at, eomAtEnd, oddMet, warned, overflowed, hidden, readVariable, runTells, reading, goesDown, wrote, writing, marking, spaceTells, movement, spacing, targetOf, destination16, locateTells, locating, selecting, withLength, act}
 use Rattle.exact.specs.Residues.{counts}
+use Rattle.exact.specs.EndOfData.{mayMeetEnd}
 
 -- a sense that the command o may tell
 pub record Told (o : Operation) (s : Sense) : Type 0 where
@@ -35,6 +37,7 @@ pub record Told (o : Operation) (s : Sense) : Type 0 where
   pub residue : ℤ
   pub key-small : key < 16
   pub asc-known : (asc ≡ noAdditional) ⊎ (asc ≡ invalidListField)
+  pub at-end : key ≡ blankCheck → mayMeetEnd o ≡ true
   pub is : s ≡ told (counts o) filemark eom ili key asc ascq residue
 
 abbrev pub ToldBy : Operation → Option Sense → Type 0
@@ -42,8 +45,8 @@ ToldBy o none = Unit {0}
 ToldBy o (some s) = Told o s
 
 -- one that 01 gives ASC 00h, told by a command of which c says whether it counts
-plain : (o : Operation) (c f e i : Bool) (key ascq : ℕ) (z : ℤ) → counts o ≡ c → key < 16 → Told o (told c f e i key noAdditional ascq z)
-plain o c f e i key ascq z q h = record { filemark = f; eom = e; ili = i; key = key; asc = noAdditional; ascq = ascq; residue = z; key-small = h; asc-known = inl refl; is = ap (λ (b : Bool). told b f e i key noAdditional ascq z) (sym q) }
+plain : (o : Operation) (c f e i : Bool) (key ascq : ℕ) (z : ℤ) → counts o ≡ c → key < 16 → (key ≡ blankCheck → mayMeetEnd o ≡ true) → Told o (told c f e i key noAdditional ascq z)
+plain o c f e i key ascq z q h k = record { filemark = f; eom = e; ili = i; key = key; asc = noAdditional; ascq = ascq; residue = z; key-small = h; asc-known = inl refl; at-end = k; is = ap (λ (b : Bool). told b f e i key noAdditional ascq z) (sym q) }
 
 module _ (d : Drive) (cmd sent : List ℕ) (v : Seen) where
   wrote-tells : (o : Operation) → counts o ≡ true → (n : ℕ) (os : List Object) (z : ℤ) → ToldBy o ((wrote d v n os z) .tells)
@@ -54,21 +57,21 @@ module _ (d : Drive) (cmd sent : List ℕ) (v : Seen) where
       there = at d (d .position + length os)
 
       go : (t w : Bool) → ToldBy o ((cond t (cond w (checked there warned) (good there)) (checked there (overflowed z))) .tells)
-      go true true = plain o true false true false noSense endOfPartition (pos 0) c (omega arith)
+      go true true = plain o true false true false noSense endOfPartition (pos 0) c (omega arith) (λ e. absurd (omega arith))
       go true false = tt
-      go false w = plain o true false true false volumeOverflow endOfPartition z c (omega arith)
+      go false w = plain o true false true false volumeOverflow endOfPartition z c (omega arith) (λ e. absurd (omega arith))
 
   run-tells : (w : Ended) (z : ℤ) → ToldBy Read (runTells v w z)
   unfolding runTells
   run-tells whole z = tt
-  run-tells oddLength z = plain Read true false false true noSense unqualified z refl (omega arith)
-  run-tells atFilemark z = plain Read true true false false noSense filemarkDetected z refl (omega arith)
-  run-tells atEnd z = plain Read true false (eomAtEnd v) false blankCheck endOfDataDetected z refl (omega arith)
+  run-tells oddLength z = plain Read true false false true noSense unqualified z refl (omega arith) (λ e. absurd (omega arith))
+  run-tells atFilemark z = plain Read true true false false noSense filemarkDetected z refl (omega arith) (λ e. absurd (omega arith))
+  run-tells atEnd z = plain Read true false (eomAtEnd v) false blankCheck endOfDataDetected z refl (omega arith) (λ e. refl)
 
   variable-tells : (x : Option Object) → ToldBy Read ((readVariable d cmd v x) .tells)
   unfolding readVariable
-  variable-tells none = plain Read true false (eomAtEnd v) false blankCheck endOfDataDetected (pos (transferOf cmd)) refl (omega arith)
-  variable-tells (some filemark) = plain Read true true false false noSense filemarkDetected (pos (transferOf cmd)) refl (omega arith)
+  variable-tells none = plain Read true false (eomAtEnd v) false blankCheck endOfDataDetected (pos (transferOf cmd)) refl (omega arith) (λ e. refl)
+  variable-tells (some filemark) = plain Read true true false false noSense filemarkDetected (pos (transferOf cmd)) refl (omega arith) (λ e. absurd (omega arith))
   variable-tells (some (block bs)) = go (eqb (length bs) (transferOf cmd) || hidden d cmd (length bs))
     where
       there : Drive
@@ -76,7 +79,7 @@ module _ (d : Drive) (cmd sent : List ℕ) (v : Seen) where
 
       go : (t : Bool) → ToldBy Read ((cond t (good there) (checked there (oddMet (subℕ (transferOf cmd) (length bs))))) .tells)
       go true = tt
-      go false = plain Read true false false true noSense unqualified (subℕ (transferOf cmd) (length bs)) refl (omega arith)
+      go false = plain Read true false false true noSense unqualified (subℕ (transferOf cmd) (length bs)) refl (omega arith) (λ e. absurd (omega arith))
 
   read-tells : ToldBy Read ((reading d cmd v) .tells)
   unfolding reading
@@ -91,15 +94,15 @@ module _ (d : Drive) (cmd sent : List ℕ) (v : Seen) where
       go false false = variable-tells (getElem? (v .objects) (d .position))
 
   -- SPACE of either length, by its code and its count
-  space-tells : (o : Operation) → counts o ≡ true → (code : ℕ) (k : ℤ) → ToldBy o ((spacing d code k v) .tells)
+  space-tells : (o : Operation) → counts o ≡ true → mayMeetEnd o ≡ true → (code : ℕ) (k : ℤ) → ToldBy o ((spacing d code k v) .tells)
   unfolding spacing spaceTells
-  space-tells o c code k = go (movement code k (d .position) (v .objects)) ((movement code k (d .position) (v .objects)) .why) k
+  space-tells o c h code k = go (movement code k (d .position) (v .objects)) ((movement code k (d .position) (v .objects)) .why) k
     where
       go : (m : M.Move) (w : M.Why) (k : ℤ) → ToldBy o (spaceTells v k (record { to = m .to; moved = m .moved; why = w; distance = m .distance }))
       go m M.done k = tt
-      go m M.marked k = plain o true true false false noSense filemarkDetected _ c (omega arith)
-      go m M.edge (pos n) = plain o true false (eomAtEnd v) false blankCheck endOfDataDetected _ c (omega arith)
-      go m M.edge (negsuc n) = plain o true false true false noSense beginningOfPartition _ c (omega arith)
+      go m M.marked k = plain o true true false false noSense filemarkDetected _ c (omega arith) (λ e. absurd (omega arith))
+      go m M.edge (pos n) = plain o true false (eomAtEnd v) false blankCheck endOfDataDetected _ c (omega arith) (λ e. h)
+      go m M.edge (negsuc n) = plain o true false true false noSense beginningOfPartition _ c (omega arith) (λ e. absurd (omega arith))
 
   select-tells : ToldBy ModeSelect ((selecting d cmd sent) .tells)
   unfolding selecting
@@ -108,17 +111,17 @@ module _ (d : Drive) (cmd sent : List ℕ) (v : Seen) where
       go : (z r : Bool) (n : ℕ) (e : Drive) → ToldBy ModeSelect ((cond z (good d) (cond r (carrying n (good e)) (checked d (plainly illegalRequest invalidListField unqualified)))) .tells)
       go true r n e = tt
       go false true n e = tt
-      go false false n e = record { filemark = false; eom = false; ili = false; key = illegalRequest; asc = invalidListField; ascq = unqualified; residue = pos 0; key-small = omega arith; asc-known = inr refl; is = refl }
+      go false false n e = record { filemark = false; eom = false; ili = false; key = illegalRequest; asc = invalidListField; ascq = unqualified; residue = pos 0; key-small = omega arith; asc-known = inr refl; at-end = λ e. absurd (omega arith); is = refl }
 
   -- LOCATE of either length, by its partition and its destination
-  locate-tells : (o : Operation) → counts o ≡ false → (k : ℕ) (t : M.Destination) → ToldBy o ((locating d k t v) .tells)
+  locate-tells : (o : Operation) → counts o ≡ false → mayMeetEnd o ≡ true → (k : ℕ) (t : M.Destination) → ToldBy o ((locating d k t v) .tells)
   unfolding locating locateTells
-  locate-tells o c k t = go ((M.locate t (cond (eqb k (d .current)) (d .position) 0) (v .objects)) .why)
+  locate-tells o c h k t = go ((M.locate t (cond (eqb k (d .current)) (d .position) 0) (v .objects)) .why)
     where
       go : (w : M.Why) → ToldBy o (locateTells v w)
       go M.done = tt
       go M.marked = tt
-      go M.edge = plain o false false (eomAtEnd v) false blankCheck endOfDataDetected (pos 0) c (omega arith)
+      go M.edge = plain o false false (eomAtEnd v) false blankCheck endOfDataDetected (pos 0) c (omega arith) (λ e. h)
 
   write-tells : ToldBy Write ((writing d cmd sent v) .tells)
   unfolding writing
@@ -152,13 +155,13 @@ module _ (d : Drive) (cmd sent : List ℕ) (v : Seen) where
   act-tells Read = read-tells
   act-tells Write = write-tells
   act-tells WriteFilemarks = marks-tell
-  act-tells Space = space-tells Space refl (spaceCodeOf cmd) (spaceCountOf cmd)
+  act-tells Space = space-tells Space refl refl (spaceCodeOf cmd) (spaceCountOf cmd)
   act-tells ModeSelect = select-tells
   act-tells Erase = tt
   act-tells ModeSense = tt
   act-tells LoadUnload = tt
-  act-tells Locate = locate-tells Locate refl (targetOf Locate d cmd) (M.object (objectOf cmd))
+  act-tells Locate = locate-tells Locate refl refl (targetOf Locate d cmd) (M.object (objectOf cmd))
   act-tells ReadPosition = tt
-  act-tells Space16 = space-tells Space16 refl (spaceCodeOf cmd) (spaceCount16Of cmd)
-  act-tells Locate16 = locate-tells Locate16 refl (targetOf Locate16 d cmd) (destination16 cmd)
+  act-tells Space16 = space-tells Space16 refl refl (spaceCodeOf cmd) (spaceCount16Of cmd)
+  act-tells Locate16 = locate-tells Locate16 refl refl (targetOf Locate16 d cmd) (destination16 cmd)
   act-tells NotServed = tt

@@ -26,7 +26,7 @@ use Rattle.codes.specs.Fields.{fixedOf, transferOf, spaceCodeOf, spaceCountOf, 
 use Rattle.commands.specs.Kinds.{among}
 use Rattle.commands.specs.Act.{Seen, Deed, good, checked, at, atPartition, filemarkMet, oddMet, beginningMet, readVariable, movement, targetOf, destination16, act}
 use Rattle.commands.specs.Tests.{tests}
-use Rattle.commands.specs.Step.{Stepped, carriedOut, unless}
+use Rattle.commands.specs.Step.{Stepped, steppedBy, unless}
 use Rattle.commands.specs.Call.{Lent, outcome, Result, result, partition, looksAt, seen, faulty, applied, written}
 use Rattle.exact.specs.Senses.{Tells}
 
@@ -37,8 +37,11 @@ abbrev pub MeetsEnd : Result → Type 0
 MeetsEnd r = Tells r blankCheck noAdditional endOfDataDetected
 
 -- "READ, SPACE or LOCATE .. LOCATE (16) included"
+abbrev pub meetingEnd : List Operation
+meetingEnd = Read ∷ Space ∷ Locate ∷ Space16 ∷ Locate16 ∷ []
+
 abbrev pub mayMeetEnd : Operation → Bool
-mayMeetEnd o = among (Read ∷ Space ∷ Locate ∷ Space16 ∷ Locate16 ∷ []) o
+mayMeetEnd o = among meetingEnd o
 
 -- the partition that a call looks at: LOCATE's target, else the current one
 abbrev pub lookedAt : List ℕ → Lent → List ℕ
@@ -121,7 +124,7 @@ abbrev pub callBy : (Seen → Bool) → List ℕ → Lent → Result
 callBy rule rec x =
     let o = operationOf (codeOf (x .cmd)) in
     let d = decodeOf rec in
-    callWith (carriedOut o d (x .cmd) (x .sent) (seen o d x) (actBy rule o d (x .cmd) (x .sent) (seen o d x))) rec x
+    callWith (steppedBy o d (x .cmd) (x .sent) (seen o d x) (actBy rule o d (x .cmd) (x .sent) (seen o d x))) rec x
 
 -- 01, before Q-2: "EOM 0 (H)"
 abbrev pub never : Seen → Bool
