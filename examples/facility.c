@@ -245,9 +245,9 @@ static void plan(struct drive *d, uint8_t partition, enum condition condition, l
 {
     locate(d, partition, UINT32_MAX);
     expect(d, condition, 0, partition, objects);
-    int is_full = is_near_end(d->record + STORMTOGGLE_RECORD_SENSE);
-    must_equal(d, "whether its end is near", is_full, condition == END_OF_DATA_IN_WARNING);
-    printf("    planned: %s\n", is_full ? "change the cartridge before more goes to this partition" : "it takes more");
+    int is_near = is_near_end(d->record + STORMTOGGLE_RECORD_SENSE);
+    must_equal(d, "whether its end is near", is_near, condition == END_OF_DATA_IN_WARNING);
+    printf("    planned: %s\n", is_near ? "change the cartridge before more goes to this partition" : "it takes more");
 }
 
 /* At early warning all is written; at overflow the residue tells how many tiles are not. A filemark still fits. */
