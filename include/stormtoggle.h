@@ -20,7 +20,8 @@
 extern "C" {
 #endif
 
-/* An answer is one number. Bits 36 to 63 are 0 and kept for a later field, so test a field and not the whole number. */
+/* An answer is one number of four fields. Test a field and not the whole number: GOOD with nothing carried is 0 but for
+ * bits 36 to 63, where a SPACE tells how far it went. */
 
 /* Bits 0 to 31: bytes carried. */
 #define STORMTOGGLE_CARRIED(answer) ((uint32_t)(answer))
@@ -42,6 +43,12 @@ enum {
 /* Bit 35: the SCSI status. */
 #define STORMTOGGLE_STATUS(answer) ((unsigned)((uint64_t)(answer) >> 35 & 1) << 1)
 enum { STORMTOGGLE_GOOD = 0x00, STORMTOGGLE_CHECK_CONDITION = 0x02 };
+
+/* Bits 36 to 63: how many objects a SPACE, of either length and by any code, crossed, filemarks included: the distance
+ * between the position before and after it, whatever its status. That is not what it counted: a filemark that ends a
+ * SPACE over blocks is crossed, and not counted in its residue. 0 for every other call, and for a SPACE that is refused
+ * or ends in a test. */
+#define STORMTOGGLE_CROSSED(answer) ((uint32_t)((uint64_t)(answer) >> 36))
 
 /* How long a partition's image, and a block in it, may be. */
 enum {

@@ -1,9 +1,9 @@
 -- LOCATE (16) to file f lands where REWIND and SPACE over f filemarks land, when both are GOOD; and after that REWIND the one is GOOD exactly if the other is.
 -- Assumes nothing.
-use Prim.Native.Nat.{ℕ, zero, suc, zero-le}
+use Prim.Native.Nat.{ℕ, zero, suc, zero-le, _^_, _<_}
 use native.Mathlib.Nat.{zero-add}
 use native.Mathlib.Omega.{arith}
-use mathlib.Core.Path.{_≡_, refl, sym, ap, ap₂, _∙_}
+use mathlib.Core.Path.{_≡_, refl, sym, ap, ap₂, _∙_, subst}
 use mathlib.Core.Logic.{_⊎_, inl, inr}
 use mathlib.Core.Bool.{Bool, true, false, cond, not, _&&_}
 use mathlib.Core.Option.{Option, none, some}
@@ -38,6 +38,7 @@ use Rattle.commands.specs.Act.{Seen, Deed, at, offered, goesDown, spaceTells, o
 use Rattle.commands.specs.Tests.{tests, fieldError, taken, replyLength, needed}
 use Rattle.commands.specs.Step.{checkAnswer, statusOf, keptOf, acted, unless, step}
 use Rattle.commands.specs.Call.{Lent, lent, Result, result, partition, looksAt, seenOf, nothing, seen, inserted, laidOut, applied, stepOf, called, written, commandCall, commandTests}
+use Rattle.commands.proofs.Crossed.{call-fits}
 use Rattle.commands.proofs.Ends.{call-acts}
 use Rattle.commands.proofs.Faultless.{Well, inside, back, no-fault, empty-whole}
 use Rattle.commands.proofs.Passed.{all-false}
@@ -46,30 +47,30 @@ use Rattle.history.specs.Demand3.{Mounted}
 use Rattle.history.proofs.Ended.{Finished, by-number, by-sense, by-act, ended}
 use Rattle.history.proofs.Acted.{idle}
 use Rattle.history.proofs.Moved.{moved-well}
-use Rattle.alike.specs.Alike.{under, ToFile, OverMarks, Rewinds}
+use Rattle.alike.specs.Alike.{ToFile, OverMarks, Rewinds}
 
 -- file f begins where SPACE over f filemarks from the beginning ends, and both end for the same reason
 pub file-as-marks : (f p : ℕ) (xs : List Object) → (M.toFile p f xs .to ≡ M.space M.filemarks (pos f) 0 xs .to) × (M.toFile p f xs .why ≡ M.space M.filemarks (pos f) 0 xs .why)
 unfolding M.toFile M.space M.ahead
 file-as-marks f p xs = (sym (zero-add (M.walk M.filemarks f xs .crossed)), refl)
 
--- ---- a command that moves the drive to position n of its partition, tells t, and does no more
+-- ---- a command that moves the drive to position n of its partition, tells t, reports c objects as crossed, and does no more
 
-abbrev moves : Drive → ℕ → Option Sense → Deed
-moves d n t = record { drive = at d n; tells = t; received = []; carried = 0 }
+abbrev moves : Drive → ℕ → Option Sense → ℕ → Deed
+moves d n t c = record { drive = at d n; tells = t; received = []; carried = 0; crossed = c }
 
-record Goes (rec : List ℕ) (x : Lent) (n : ℕ) (t : Option Sense) : Type 0 where
+record Goes (rec : List ℕ) (x : Lent) (n : ℕ) (t : Option Sense) (c : ℕ) : Type 0 where
   o : Operation
   is : operationOf (codeOf (x .cmd)) ≡ o
   quiet : writes o ≡ false
-  does : act o (decodeOf rec) (x .cmd) (x .sent) (seen o (decodeOf rec) x) ≡ moves (decodeOf rec) n t
+  does : act o (decodeOf rec) (x .cmd) (x .sent) (seen o (decodeOf rec) x) ≡ moves (decodeOf rec) n t c
 
 -- what it leaves, and what if it tells nothing
-abbrev left : Drive → ℕ → Option Sense → Lent → Result
-left d n t x = result (answered (statusOf t) 0) (encodeOf (withSense (at d n) (keptOf t))) x
+abbrev left : Drive → ℕ → Option Sense → ℕ → Lent → Result
+left d n t c x = result (answered (statusOf t) 0 c) (encodeOf (withSense (at d n) (keptOf t))) x
 
-abbrev landed : Drive → ℕ → Lent → Result
-landed d n x = result done (encodeOf (withSense (at d n) emptySense)) x
+abbrev landed : Drive → ℕ → ℕ → Lent → Result
+landed d n c x = result (answered 0 0 c) (encodeOf (withSense (at d n) emptySense)) x
 
 module _ (rec cmd p0 p1 sent received : List ℕ) where
   abbrev d : Drive
@@ -78,17 +79,17 @@ module _ (rec cmd p0 p1 sent received : List ℕ) where
   abbrev x : Lent
   x = lent cmd p0 p1 sent received
 
-  goes-left : (n : ℕ) (t : Option Sense) → Goes rec x n t → first (commandTests rec x) ≡ none → commandCall rec x ≡ left d n t x
+  goes-left : (n : ℕ) (t : Option Sense) (c : ℕ) → Goes rec x n t c → first (commandTests rec x) ≡ none → commandCall rec x ≡ left d n t c x
   unfolding applied acted
-  goes-left n t w h =
+  goes-left n t c w h =
       call-acts rec x h
       ∙ ap (λ (p : Operation). written rec (applied (acted p d cmd sent (seen p d x)) (looksAt p d cmd) x)) (w .is)
-      ∙ ap (λ (c : Cartridge). by (act (w .o) d cmd sent (seen (w .o) d x)) (c .part0) (c .part1)) (idle rec x (w .o) (w .quiet))
+      ∙ ap (λ (q : Cartridge). by (act (w .o) d cmd sent (seen (w .o) d x)) (q .part0) (q .part1)) (idle rec x (w .o) (w .quiet))
       ∙ ap (λ (e : Deed). by e p0 p1) (w .does)
-      ∙ ap (λ (l : List ℕ). result (answered (statusOf t) 0) (encodeOf (withSense (at d n) (keptOf t))) (lent cmd p0 p1 sent l)) (over-nil received 0)
+      ∙ ap (λ (l : List ℕ). result (answered (statusOf t) 0 c) (encodeOf (withSense (at d n) (keptOf t))) (lent cmd p0 p1 sent l)) (over-nil received 0)
     where
       by : Deed → List ℕ → List ℕ → Result
-      by e q0 q1 = result (answered (statusOf (e .tells)) (e .carried)) (encodeOf (withSense (e .drive) (keptOf (e .tells)))) (lent cmd q0 q1 sent (over received 0 (e .received)))
+      by e q0 q1 = result (answered (statusOf (e .tells)) (e .carried) (e .crossed)) (encodeOf (withSense (e .drive) (keptOf (e .tells)))) (lent cmd q0 q1 sent (over received 0 (e .received)))
 
   -- GOOD: no test stopped it, and it tells nothing
   abbrev Good : Type 0
@@ -105,10 +106,10 @@ module _ (rec cmd p0 p1 sent received : List ℕ) where
       go (by-sense s e f b w z l q) = not-so (result checkAnswer (encodeOf (withSense f b)) x) q refl
       go (by-act e w t q) = (e, w)
 
-  lands : (n : ℕ) (t : Option Sense) → Goes rec x n t → Good → commandCall rec x ≡ landed d n x
-  lands n t w g = go t (goes-left n t w (passed g .0))
+  lands : (n : ℕ) (t : Option Sense) (c : ℕ) → Goes rec x n t c → Good → commandCall rec x ≡ landed d n c x
+  lands n t c w g = go t (goes-left n t c w (passed g .0))
     where
-      go : (t : Option Sense) → commandCall rec x ≡ left d n t x → commandCall rec x ≡ landed d n x
+      go : (t : Option Sense) → commandCall rec x ≡ left d n t c x → commandCall rec x ≡ landed d n c x
       go none q = unfold statusOf keptOf in q
       go (some s) q = unfold statusOf in absurd (not-both (sym g ∙ ap (λ (y : Result). isGood (y .answer)) q))
 
@@ -135,19 +136,19 @@ module _ (f : ℕ) (rec cmd p0 p1 sent received : List ℕ) where
   abbrev v : Seen
   v = current from p0 p1
 
-  located-goes : ToFile f cmd → Goes rec (lent cmd p0 p1 sent received) (marks f v .crossed) (locateTells v (marks f v .why))
+  located-goes : ToFile f cmd → Goes rec (lent cmd p0 p1 sent received) (marks f v .crossed) (locateTells v (marks f v .why)) 0
   unfolding act locating destination16 M.locate M.toFile seen looksAt targetOf
   located-goes t = record { o = Locate16; is = t .is; quiet = refl; does = rw (t .stays, t .by-file, t .identifier) refl }
 
-  over-marks : from .position ≡ 0 → spacing from overFilemarks (pos f) v ≡ moves from (marks f v .crossed) (tellsOver f v)
+  over-marks : from .position ≡ 0 → spacing from overFilemarks (pos f) v ≡ moves from (marks f v .crossed) (tellsOver f v) (marks f v .crossed)
   unfolding spacing movement M.space M.ahead
   over-marks z = rw (z, zero-add (marks f v .crossed)) refl
 
-  spaced-goes : OverMarks f cmd → from .position ≡ 0 → Goes rec (lent cmd p0 p1 sent received) (marks f v .crossed) (tellsOver f v)
+  spaced-goes : OverMarks f cmd → from .position ≡ 0 → Goes rec (lent cmd p0 p1 sent received) (marks f v .crossed) (tellsOver f v) (marks f v .crossed)
   unfolding act seen looksAt
   spaced-goes m z = go (m .is)
     where
-      go : Either f cmd → Goes rec (lent cmd p0 p1 sent received) (marks f v .crossed) (tellsOver f v)
+      go : Either f cmd → Goes rec (lent cmd p0 p1 sent received) (marks f v .crossed) (tellsOver f v) (marks f v .crossed)
       go (inl h) = record { o = Space; is = h .0; quiet = refl; does = ap₂ (λ (c : ℕ) (k : ℤ). spacing from c k v) (m .code) (h .1) ∙ over-marks z }
       go (inr h) = record { o = Space16; is = h .0; quiet = refl; does = ap₂ (λ (c : ℕ) (k : ℤ). spacing from c k v) (m .code) (h .1) ∙ over-marks z }
 
@@ -164,32 +165,37 @@ module _ (rec rewound p0 p1 sent received : List ℕ) (r : Rewinds rewound) (g :
   -- a command on what a REWIND left that is GOOD is one on that record and the same partitions
   rewinds : (cmd : List ℕ) → let b = commandCall rec (lent rewound p0 p1 sent received) in commandCall (b .rec) (lent cmd (b .lent .part0) (b .lent .part1) sent received) ≡ commandCall (beginning rec) (lent cmd p0 p1 sent received)
   unfolding act
-  rewinds cmd = ap (λ (b : Result). commandCall (b .rec) (lent cmd (b .lent .part0) (b .lent .part1) sent received)) (lands rec rewound p0 p1 sent received 0 none (record { o = Rewind; is = r; quiet = refl; does = refl }) g)
+  rewinds cmd = ap (λ (b : Result). commandCall (b .rec) (lent cmd (b .lent .part0) (b .lent .part1) sent received)) (lands rec rewound p0 p1 sent received 0 none 0 (record { o = Rewind; is = r; quiet = refl; does = refl }) g)
 
-  then-goes : (f : ℕ) (spaced : List ℕ) → OverMarks f spaced → let v = current (decodeOf (beginning rec)) p0 p1 in Goes (beginning rec) (lent spaced p0 p1 sent received) (marks f v .crossed) (tellsOver f v)
+  then-goes : (f : ℕ) (spaced : List ℕ) → OverMarks f spaced → let v = current (decodeOf (beginning rec)) p0 p1 in Goes (beginning rec) (lent spaced p0 p1 sent received) (marks f v .crossed) (tellsOver f v) (marks f v .crossed)
   unfolding withSense
   then-goes f spaced m = spaced-goes f (beginning rec) spaced p0 p1 sent received m (ap (λ (e : Drive). e .position) begins)
 
   then-lands : (f : ℕ) (spaced : List ℕ) → OverMarks f spaced → isGood (commandCall (beginning rec) (lent spaced p0 p1 sent received) .answer) ≡ true
-      → commandCall (beginning rec) (lent spaced p0 p1 sent received) ≡ landed (decodeOf rec) (marks f (current (decodeOf rec) p0 p1) .crossed) (lent spaced p0 p1 sent received)
+      → commandCall (beginning rec) (lent spaced p0 p1 sent received) ≡ landed (decodeOf rec) (marks f (current (decodeOf rec) p0 p1) .crossed) (marks f (current (decodeOf rec) p0 p1) .crossed) (lent spaced p0 p1 sent received)
   unfolding withSense
   then-lands f spaced m h =
-      lands (beginning rec) spaced p0 p1 sent received _ _ (then-goes f spaced m) h
-      ∙ ap (λ (e : Drive). landed e (marks f (current e p0 p1) .crossed) (lent spaced p0 p1 sent received)) begins
+      lands (beginning rec) spaced p0 p1 sent received _ _ _ (then-goes f spaced m) h
+      ∙ ap (λ (e : Drive). landed e (marks f (current e p0 p1) .crossed) (marks f (current e p0 p1) .crossed) (lent spaced p0 p1 sent received)) begins
 
--- LOCATE (16) to file f and REWIND and SPACE over f filemarks, all GOOD, leave the same answer, record, partitions and receiving buffer
+-- LOCATE (16) to file f and REWIND and SPACE over f filemarks, all GOOD, leave the same record, partitions and receiving buffer; and the same answer
+-- but for what SPACE crossed, which is as many objects as lie before where both end (Q-10: LOCATE "answers 0 there")
 pub file-reached : (f : ℕ) (rec located rewound spaced p0 p1 sent received : List ℕ) → ToFile f located → Rewinds rewound → OverMarks f spaced
     → let a = commandCall rec (lent located p0 p1 sent received) in
     let b = commandCall rec (lent rewound p0 p1 sent received) in
     let c = commandCall (b .rec) (lent spaced (b .lent .part0) (b .lent .part1) sent received) in
     isGood (a .answer) ≡ true → isGood (b .answer) ≡ true → isGood (c .answer) ≡ true
-    → (a .answer ≡ c .answer) × (a .rec ≡ c .rec) × (a .lent .part0 ≡ c .lent .part0) × (a .lent .part1 ≡ c .lent .part1) × (a .lent .received ≡ c .lent .received)
+    → (a .answer ≡ done) × (c .answer ≡ answered 0 0 (decodeOf (c .rec) .position)) × (a .rec ≡ c .rec) × (a .lent .part0 ≡ c .lent .part0) × (a .lent .part1 ≡ c .lent .part1) × (a .lent .received ≡ c .lent .received)
+unfolding withSense
 file-reached f rec located rewound spaced p0 p1 sent received t r m ga gb gc =
+    let b = commandCall rec (lent rewound p0 p1 sent received) in
     let e = rewinds rec rewound p0 p1 sent received r gb spaced in
-    let qa = lands rec located p0 p1 sent received _ _ (located-goes f rec located p0 p1 sent received t) ga in
+    let qa = lands rec located p0 p1 sent received _ _ _ (located-goes f rec located p0 p1 sent received t) ga in
     let qc = e ∙ then-lands rec rewound p0 p1 sent received r gb f spaced m (sym (ap (λ (y : Result). isGood (y .answer)) e) ∙ gc) in
-    let q = qa ∙ sym (ap (under located) qc) in
-    (ap (λ (y : Result). y .answer) q, ap (λ (y : Result). y .rec) q, ap (λ (y : Result). y .lent .part0) q, ap (λ (y : Result). y .lent .part1) q, ap (λ (y : Result). y .lent .received) q)
+    let n : ℕ = marks f (current (decodeOf rec) p0 p1) .crossed in
+    let small : n < 2 ^ 28 = subst (λ (k : ℕ). k < 2 ^ 28) (ap (λ (y : Result). y .answer .crossed) qc) (call-fits (b .rec) (lent spaced (b .lent .part0) (b .lent .part1) sent received) .1) in
+    let there = ap (λ (y : Result). decodeOf (y .rec) .position) qc ∙ ap (λ (y : Drive). y .position) (back (at (decodeOf rec) n) emptySense (omega arith) (passed rec rewound p0 p1 sent received gb .1 .small) empty-whole) in
+    (ap (λ (y : Result). y .answer) qa, ap (λ (y : Result). y .answer) qc ∙ ap (answered 0 0) (sym there), ap (λ (y : Result). y .rec) qa ∙ sym (ap (λ (y : Result). y .rec) qc), ap (λ (y : Result). y .lent .part0) qa ∙ sym (ap (λ (y : Result). y .lent .part0) qc), ap (λ (y : Result). y .lent .part1) qa ∙ sym (ap (λ (y : Result). y .lent .part1) qc), ap (λ (y : Result). y .lent .received) qa ∙ sym (ap (λ (y : Result). y .lent .received) qc))
 
 -- ---- GOOD, of the one exactly if of the other
 
@@ -269,11 +275,11 @@ pub file-good : (f : ℕ) (rec located rewound spaced p0 p1 sent received : List
 unfolding withSense
 file-good f rec located rewound spaced p0 p1 sent received t r m la ka lc kc g =
     let good : Result → Bool = λ (y : Result). isGood (y .answer) in
-    let told : Option Sense → Bool = λ (s : Option Sense). isGood (answered (statusOf s) 0) in
-    let qa = goes-left rec located p0 p1 sent received _ _ (located-goes f rec located p0 p1 sent received t) (located-passes rec located p0 p1 sent received (was-mounted rec rewound p0 p1 sent received r g) la ka f t) in
-    let qc = goes-left (beginning rec) spaced p0 p1 sent received _ _ (then-goes rec rewound p0 p1 sent received r g f spaced m) (spaced-passes (beginning rec) spaced p0 p1 sent received (stays-mounted rec rewound p0 p1 sent received r g) lc kc f m) in
+    let told : Option Sense → Bool = λ (s : Option Sense). isGood (answered (statusOf s) 0 0) in
+    let qa = goes-left rec located p0 p1 sent received _ _ _ (located-goes f rec located p0 p1 sent received t) (located-passes rec located p0 p1 sent received (was-mounted rec rewound p0 p1 sent received r g) la ka f t) in
+    let qc = goes-left (beginning rec) spaced p0 p1 sent received _ _ _ (then-goes rec rewound p0 p1 sent received r g f spaced m) (spaced-passes (beginning rec) spaced p0 p1 sent received (stays-mounted rec rewound p0 p1 sent received r g) lc kc f m) in
     ap good qa
-    ∙ ap (λ (n : ℕ). isGood (answered n 0)) (tell-alike f (current (decodeOf rec) p0 p1))
+    ∙ ap (λ (n : ℕ). isGood (answered n 0 0)) (tell-alike f (current (decodeOf rec) p0 p1))
     ∙ sym (ap (λ (e : Drive). told (tellsOver f (current e p0 p1))) (begins rec rewound p0 p1 sent received r g))
     ∙ sym (ap good (rewinds rec rewound p0 p1 sent received r g spaced ∙ qc))
 

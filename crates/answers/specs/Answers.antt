@@ -1,6 +1,6 @@
 -- What a call answers (01, "Answers of a call"), and how it packs into one number for C.
 -- Assumes nothing: these are definitions.
-use Prim.Native.Nat.{ℕ, _+_, _*_, _^_}
+use Prim.Native.Nat.{ℕ, _+_, _*_, _^_, _<_}
 use mathlib.Core.Bool.{Bool, cond}
 use mathlib.Core.Option.{Option, none, some}
 use mathlib.Core.List.{List, [], _∷_}
@@ -33,17 +33,17 @@ wrongLength = 7
 abbrev pub checkCondition : ℕ
 checkCondition = 0x02
 
--- a refusal returns its number, 0, 0
+-- a refusal returns its number, 0, 0; and Q-10: "refusals included, answers 0 there"
 abbrev pub refused : ℕ → Answer
-refused n = record { refusal = n; status = 0; carried = 0 }
+refused n = record { refusal = n; status = 0; carried = 0; crossed = 0 }
 
--- not refused: its SCSI status, and the bytes carried
-abbrev pub answered : ℕ → ℕ → Answer
-answered status carried = record { refusal = 0; status = status; carried = carried }
+-- not refused: its SCSI status, the bytes carried, and, Q-10: "how many objects it crossed, filemarks included, as a fourth number of the answer"
+abbrev pub answered : ℕ → ℕ → ℕ → Answer
+answered status carried crossed = record { refusal = 0; status = status; carried = carried; crossed = crossed }
 
--- a house service done: 0, 0, 0
+-- a house service done: 0, 0, 0; it crosses no object
 abbrev pub done : Answer
-done = answered 0 0
+done = answered 0 0 0
 
 -- of the tests of a call, in their order, what the first that holds gives
 module _ {A : Type 0} where
@@ -68,9 +68,13 @@ settled a s = record { answer = a; lent = s }
 abbrev pub settledBy : ℕ → List ℕ → List ℕ → Settled
 settledBy n lent made = cond (eqb n 0) (settled done made) (settled (refused n) lent)
 
--- bits 0 to 31 the bytes carried, 32 to 34 the refusal, bit 35 set for the status 02h
+-- what the three bits of the refusal and the 28 of the objects crossed hold; the bytes carried are 32 bits as they are
+abbrev pub InFields : Answer → Type 0
+InFields a = (a .refusal < 2 ^ 3) × (a .crossed < 2 ^ 28)
+
+-- bits 0 to 31 the bytes carried, 32 to 34 the refusal, bit 35 set for the status 02h, 36 to 63 the objects crossed
 unfoldable pub packed : Answer → ℕ
-packed a = a .carried + a .refusal * 2 ^ 32 + cond (eqb (a .status) checkCondition) (2 ^ 35) 0
+packed a = a .carried + a .refusal * 2 ^ 32 + cond (eqb (a .status) checkCondition) (2 ^ 35) 0 + a .crossed * 2 ^ 36
 
 -- the view's answer: the length in bits 0 to 31, the start above
 unfoldable pub packedPart : ℕ → ℕ → ℕ

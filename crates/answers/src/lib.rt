@@ -1,7 +1,7 @@
-// What a call answers: three numbers, and how they pack into one for C.
+// What a call answers: four numbers, and how they pack into one for C.
 ghost use mathlib.Core.Path.{_≡_};
 ghost use Prim.Native.Nat.{_<_};
-ghost use Rattle.answers.specs.Answers.{packed, packedPart};
+ghost use Rattle.answers.specs.Answers.{InFields, packed, packedPart};
 ghost use Rattle.answers.specs.Answers.{answered as Answers·answered, refused as Answers·refused, done as Answers·done};
 
 // The refusals of document 01's table.
@@ -22,11 +22,12 @@ pub const WRONG_LENGTH: u8 = 7;
 // The SCSI status CHECK CONDITION.
 pub const CHECK_CONDITION: u8 = 0x02;
 
-// Refusal (0 for none), SCSI status, bytes carried.
+// Refusal (0 for none), SCSI status, bytes carried, objects crossed.
 pub struct Answer {
     pub refusal: u8,
     pub status: u8,
     pub carried: u32,
+    pub crossed: u32,
 }
 
 pub fn refused(number: u8) -> Answer
@@ -36,30 +37,34 @@ pub fn refused(number: u8) -> Answer
         refusal: number,
         status: 0,
         carried: 0,
+        crossed: 0,
     }
 }
 
-// Not refused: its SCSI status, and the bytes carried.
-pub fn answered(status: u8, carried: u32) -> Answer
-    ensures { λ r. ⌜ r ≡ Answers·answered status carried ⌝ }
+// Not refused: its SCSI status, the bytes carried, and the objects crossed.
+pub fn answered(status: u8, carried: u32, crossed: u32) -> Answer
+    ensures { λ r. ⌜ r ≡ Answers·answered status carried crossed ⌝ }
 {
     Answer {
         refusal: 0,
         status: status,
         carried: carried,
+        crossed: crossed,
     }
 }
 
 pub fn done() -> Answer
     ensures { λ r. ⌜ r ≡ Answers·done ⌝ }
 {
-    answered(0, 0)
+    answered(0, 0, 0)
 }
 
 pub fn pack(a: Answer) -> u64
+    requires { ⌜ InFields a ⌝ }
     ensures { λ r. ⌜ r ≡ packed a ⌝ }
 {
-    let bits = (a.carried as u64) + (a.refusal as u64) * 0x1_0000_0000;
+    let low = (a.carried as u64) + (a.refusal as u64) * 0x1_0000_0000;
+    let bits = low + (a.crossed as u64) * 0x10_0000_0000;
     if a.status == CHECK_CONDITION {
         return bits + 0x8_0000_0000;
     }

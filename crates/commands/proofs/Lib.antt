@@ -10,3 +10,4 @@ pub mod Goes
 pub mod Laid
 pub mod Zone
 pub mod Replies
+pub mod Crossed

@@ -41,27 +41,29 @@ zoneAt v n = zoneIn (v .size) (roomOf (v .size) n (bytesIn (take n (v .objects))
 unfoldable pub eomAtEnd : Seen → Bool
 eomAtEnd v = zoneAt v (length (v .objects))
 
--- ---- what it leaves: the drive but for its sense, what it tells (nothing: GOOD), the data for the receiving buffer, and the bytes carried
+-- ---- what it leaves: the drive but for its sense, what it tells (nothing: GOOD), the data for the receiving buffer, the bytes carried, and the
+-- objects that it reports as crossed, which is for SPACE alone (Q-10: "Every other call, refusals included, answers 0 there")
 
 pub record Deed : Type 0 where
   pub drive : Drive
   pub tells : Option Sense
   pub received : List ℕ
   pub carried : ℕ
+  pub crossed : ℕ
 
 abbrev pub good : Drive → Deed
-good d = record { drive = d; tells = none; received = []; carried = 0 }
+good d = record { drive = d; tells = none; received = []; carried = 0; crossed = 0 }
 
 abbrev pub checked : Drive → Sense → Deed
-checked d s = record { drive = d; tells = some s; received = []; carried = 0 }
+checked d s = record { drive = d; tells = some s; received = []; carried = 0; crossed = 0 }
 
 -- with data for the receiving buffer
 abbrev pub giving : List ℕ → Deed → Deed
-giving b e = record { drive = e .drive; tells = e .tells; received = b; carried = length b }
+giving b e = record { drive = e .drive; tells = e .tells; received = b; carried = length b; crossed = e .crossed }
 
 -- with bytes carried from the data sent
 abbrev pub carrying : ℕ → Deed → Deed
-carrying n e = record { drive = e .drive; tells = e .tells; received = e .received; carried = n }
+carrying n e = record { drive = e .drive; tells = e .tells; received = e .received; carried = n; crossed = e .crossed }
 
 -- the drive at position n
 abbrev pub at : Drive → ℕ → Drive
@@ -124,7 +126,7 @@ runTells v atFilemark z = some (filemarkMet z)
 runTells v atEnd z = some (endMet v z)
 
 abbrev pub readRun : Drive → Seen → ℕ → Run → Deed
-readRun d v n r = record { drive = at d (d .position + r .crossed); tells = runTells v (r .why) (subℕ n (r .blocks)); received = r .bytes; carried = length (r .bytes) }
+readRun d v n r = record { drive = at d (d .position + r .crossed); tells = runTells v (r .why) (subℕ n (r .blocks)); received = r .bytes; carried = length (r .bytes); crossed = 0 }
 
 -- "Length 0: GOOD, no movement."
 unfoldable pub reading : Drive → List ℕ → Seen → Deed
@@ -190,8 +192,9 @@ spaceTells v k m = by (m .why) k
     by M.edge (pos n) = some (endMet v (M.residue (pos n) m))
     by M.edge (negsuc n) = some (beginningMet (M.residue (negsuc n) m))
 
+-- Q-10: "SPACE shall also report how many objects it crossed, filemarks included"; "Tie this number to the definition of movement"
 abbrev pub moved : Drive → Seen → ℤ → M.Move → Deed
-moved d v k m = record { drive = at d (m .to); tells = spaceTells v k m; received = []; carried = 0 }
+moved d v k m = record { drive = at d (m .to); tells = spaceTells v k m; received = []; carried = 0; crossed = m .distance }
 
 -- code 0 blocks, code 1 filemarks, code 3 "count ignored, to end of data, GOOD"
 abbrev pub overBlocks : ℕ
@@ -243,7 +246,7 @@ locateTells v M.edge = some (endTold false v (pos 0))
 unfoldable pub locating : Drive → ℕ → M.Destination → Seen → Deed
 locating d k t v =
     let m = M.locate t (cond (eqb k (d .current)) (d .position) 0) (v .objects) in
-    record { drive = atPartition d k (m .to); tells = locateTells v (m .why); received = []; carried = 0 }
+    record { drive = atPartition d k (m .to); tells = locateTells v (m .why); received = []; carried = 0; crossed = 0 }
 
 -- ---- MODE SELECT
 

@@ -41,9 +41,9 @@ unfoldable pub keptOf : Option Sense → List ℕ
 keptOf none = emptySense
 keptOf (some s) = senseBytes s
 
--- status 02h, nothing carried
+-- status 02h, nothing carried, nothing crossed
 abbrev pub checkAnswer : Answer
-checkAnswer = answered checkCondition 0
+checkAnswer = answered checkCondition 0 0
 
 -- ---- stopped, or done
 
@@ -60,7 +60,7 @@ stopped (fault key asc ascq) d = quietly checkAnswer (withSense d (senseBytes (p
 -- a deed of the command, with the kept sense replaced
 abbrev pub steppedBy : Operation → Drive → List ℕ → List ℕ → Seen → Deed → Stepped
 steppedBy o d cmd sent v e = record {
-  answer = answered (statusOf (e .tells)) (e .carried);
+  answer = answered (statusOf (e .tells)) (e .carried) (e .crossed);
   drive = withSense (e .drive) (keptOf (e .tells));
   laid = e .received;
   events = eventsOf o d cmd sent v;

@@ -18,11 +18,11 @@ use Rattle.commands.specs.Step.{statusOf, keptOf}
 use Rattle.deeds.specs.Left.{leftBy}
 
 module _ (d e : Drive) (b : List ℕ) (h : e ≡ withSense d b) (n : ℕ) where
-  pub leaves-good : b ≡ emptySense → _≡_ {A = Left} (record { drive = e; status = 0x00; carried = n }) (leftBy (carrying n (good d)))
+  pub leaves-good : b ≡ emptySense → _≡_ {A = Left} (record { drive = e; status = 0x00; carried = n; crossed = 0 }) (leftBy (carrying n (good d)))
   unfolding statusOf keptOf
   leaves-good k = rw (h, k) refl
 
-  pub leaves-checked : (s : Sense) → b ≡ senseBytes s → _≡_ {A = Left} (record { drive = e; status = checkCondition; carried = n }) (leftBy (carrying n (checked d s)))
+  pub leaves-checked : (s : Sense) → b ≡ senseBytes s → _≡_ {A = Left} (record { drive = e; status = checkCondition; carried = n; crossed = 0 }) (leftBy (carrying n (checked d s)))
   unfolding statusOf keptOf
   leaves-checked s k = rw (h, k) refl
 

@@ -4,16 +4,17 @@ ghost use Prim.Native.Nat.{_≤_};
 ghost use lib.ListN.{length};
 ghost use Rattle.commands.specs.Act.{carrying, targetOf};
 ghost use Rattle.commands.specs.Act.{good as Act·good, checked as Act·checked, at as Act·at, unattended as Act·unattended};
-ghost use Rattle.deeds.specs.Left.{leftBy};
+ghost use Rattle.deeds.specs.Left.{leftBy, leftCrossing};
 use codes::Operation;
 use record::Drive;
 use sense::Sense;
 
-// The drive with its sense replaced, the SCSI status, the bytes carried.
+// The drive with its sense replaced, the SCSI status, the bytes carried, the objects crossed.
 pub struct Left {
     pub drive: Drive,
     pub status: u8,
     pub carried: u32,
+    pub crossed: u32,
 }
 
 const GOOD: u8 = 0x00;
@@ -27,6 +28,7 @@ pub fn good(d: Drive, carried: u32) -> Left
         drive: kept,
         status: GOOD,
         carried: carried,
+        crossed: 0,
     }
 }
 
@@ -39,7 +41,17 @@ pub fn checked(d: Drive, s: Sense, carried: u32) -> Left
         drive: kept,
         status: answers::CHECK_CONDITION,
         carried: carried,
+        crossed: 0,
     }
+}
+
+// The same with n objects crossed.
+pub fn crossing(l: Left, n: u32) -> Left
+    ensures { λ r. ⌜ r ≡ leftCrossing n l ⌝ }
+{
+    let mut e = l;
+    e.crossed = n;
+    e
 }
 
 // The drive at position n.

@@ -5,6 +5,7 @@ mod senses;
 pub use deeds::Left;
 pub use deeds::at;
 pub use deeds::checked;
+pub use deeds::crossing;
 pub use deeds::good;
 pub use deeds::target_of;
 pub use deeds::unattended;

@@ -17,9 +17,10 @@ pub record Case : Type 0 where
   pub cartridge : List ℕ
   pub command : List ℕ
   pub sent : List ℕ
-  -- out: the status, the bytes carried, the kept sense, the position, the data received, the cartridge
+  -- out: the status, the bytes carried, the objects crossed (Q-10), the kept sense, the position, the data received, the cartridge
   pub status : ℕ
   pub carried : ℕ
+  pub crossed : ℕ
   pub sense : List ℕ
   pub to : ℕ
   pub received : List ℕ
@@ -46,7 +47,7 @@ callOf c = commandCall (recordAt (c .from) (c .blockLength) nothingKept) (lent (
 
 abbrev pub expected : Case → Result
 expected c =
-    result (answered (c .status) (c .carried)) (recordAt (c .to) (c .blockLength) (c .sense))
+    result (answered (c .status) (c .carried) (c .crossed)) (recordAt (c .to) (c .blockLength) (c .sense))
     (lent (c .command) (c .left) [] (c .sent) (over buffer 0 (c .received)))
 
 -- every case of a list is as expected
@@ -97,7 +98,12 @@ locate object = (0x2B ∷ 0 ∷ 0 ∷ []) ++ bytes 4 object ++ (0 ∷ 0 ∷ 0 �
 -- an edge: in from, block length, cartridge, command, sent; out status, carried, sense, to, received, cartridge
 abbrev pub edge : ℕ → ℕ → List ℕ → List ℕ → List ℕ → ℕ → ℕ → List ℕ → ℕ → List ℕ → List ℕ → Case
 edge from blockLength cartridge command sent status carried sense to received left =
-    record { from = from; blockLength = blockLength; cartridge = cartridge; command = command; sent = sent; status = status; carried = carried; sense = sense; to = to; received = received; left = left }
+    record { from = from; blockLength = blockLength; cartridge = cartridge; command = command; sent = sent; status = status; carried = carried; crossed = 0; sense = sense; to = to; received = received; left = left }
+
+-- the same where n objects are crossed
+abbrev pub crossing : ℕ → Case → Case
+crossing n c =
+    record { from = c .from; blockLength = c .blockLength; cartridge = c .cartridge; command = c .command; sent = c .sent; status = c .status; carried = c .carried; crossed = n; sense = c .sense; to = c .to; received = c .received; left = c .left }
 
 -- ---- the table
 
@@ -123,9 +129,9 @@ cases =
     -- P9 block length 4, FIXED 2 at 0: ILI, 2, position 1
     edge 0 4 E (six 0x08 1 2) [] 2 0 (sense18 0xF0 0x20 2 0x00 0x00) 1 [] E ∷
     -- P10 SPACE blocks −5 at 2: F0 00 80 FF FF FF FB 0A, byte 13 01, position 1
-    edge 2 0 E (six 0x11 0 0xFFFFFB) [] 2 0 (sense18 0xF0 0x80 0xFFFFFFFB 0x00 0x01) 1 [] E ∷
+    crossing 1 (edge 2 0 E (six 0x11 0 0xFFFFFB) [] 2 0 (sense18 0xF0 0x80 0xFFFFFFFB 0x00 0x01) 1 [] E) ∷
     -- P11 at 1: FFFFFFFCh, 0/00/04, position 0
-    edge 1 0 E (six 0x11 0 0xFFFFFB) [] 2 0 (sense18 0xF0 0x40 0xFFFFFFFC 0x00 0x04) 0 [] E ∷
+    crossing 1 (edge 1 0 E (six 0x11 0 0xFFFFFB) [] 2 0 (sense18 0xF0 0x40 0xFFFFFFFC 0x00 0x04) 0 [] E) ∷
     -- P12 LOCATE 2 GOOD, 3 blank check at 2
     edge 0 0 E (locate 2) [] 0 0 nothingKept 2 [] E ∷
     edge 0 0 E (locate 3) [] 2 0 (sense18 0x70 0x08 0 0x00 0x05) 2 [] E ∷

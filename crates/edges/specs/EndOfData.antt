@@ -8,7 +8,7 @@ use Rattle.commands.specs.Call.{lent, result}
 use Rattle.codes.specs.Six.{six}
 use Rattle.codes.specs.Sixteen.{sixteen}
 use Rattle.edges.specs.Cases.{sense18, nothingKept, trailer, bare64, locate}
-use Rattle.edges.specs.Traps.{Trap, loaded, goodAnswer, check, alone, turns}
+use Rattle.edges.specs.Traps.{Trap, loaded, goodAnswer, check, crossedGood, crossedCheck, alone, turns}
 
 -- a blank of 64 bytes with one block of n: 41 leave room 3, and 3 × 16 is not below 48; 42 leave room 2
 unfoldable pub one : ℕ → List ℕ
@@ -29,17 +29,17 @@ onSide n b2 =
     alone (loaded 0 0 n nothingKept) (six 0x08 1 2) (one n) [] (zeros (2 * n)) (check n) (loaded 0 1 n (counted b2 1)) (one n) (over (zeros (2 * n)) 0 (replicate n 7)) ∷
     -- SPACE: over blocks from there and from the beginning, over filemarks; of sixteen bytes with a residue that fits, and with one that does not
     turns (loaded 0 1 0 nothingKept) (six 0x11 0 1) (one n) (check 0) (loaded 0 1 0 (counted b2 1)) ∷
-    turns (loaded 0 0 0 nothingKept) (six 0x11 0 2) (one n) (check 0) (loaded 0 1 0 (counted b2 1)) ∷
-    turns (loaded 0 0 0 nothingKept) (six 0x11 1 1) (one n) (check 0) (loaded 0 1 0 (counted b2 1)) ∷
-    turns (loaded 0 0 0 nothingKept) (sixteen 0x91 0 0 2) (one n) (check 0) (loaded 0 1 0 (counted b2 1)) ∷
-    turns (loaded 0 0 0 nothingKept) (sixteen 0x91 1 0 (2 ^ 63 - 1)) (one n) (check 0) (loaded 0 1 0 (uncounted b2)) ∷
+    turns (loaded 0 0 0 nothingKept) (six 0x11 0 2) (one n) (crossedCheck 1) (loaded 0 1 0 (counted b2 1)) ∷
+    turns (loaded 0 0 0 nothingKept) (six 0x11 1 1) (one n) (crossedCheck 1) (loaded 0 1 0 (counted b2 1)) ∷
+    turns (loaded 0 0 0 nothingKept) (sixteen 0x91 0 0 2) (one n) (crossedCheck 1) (loaded 0 1 0 (counted b2 1)) ∷
+    turns (loaded 0 0 0 nothingKept) (sixteen 0x91 1 0 (2 ^ 63 - 1)) (one n) (crossedCheck 1) (loaded 0 1 0 (uncounted b2)) ∷
     -- LOCATE: to an object, of sixteen bytes too, and to a file
     turns (loaded 0 0 0 nothingKept) (locate 2) (one n) (check 0) (loaded 0 1 0 (uncounted b2)) ∷
     turns (loaded 0 0 0 nothingKept) (locate (2 ^ 32 - 1)) (one n) (check 0) (loaded 0 1 0 (uncounted b2)) ∷
     turns (loaded 0 0 0 nothingKept) (sixteen 0x92 0x00 0 2) (one n) (check 0) (loaded 0 1 0 (uncounted b2)) ∷
     turns (loaded 0 0 0 nothingKept) (sixteen 0x92 0x08 0 1) (one n) (check 0) (loaded 0 1 0 (uncounted b2)) ∷
     -- and what reaches end of data without meeting it is GOOD on both: SPACE code 3, LOCATE to N, and to end of data
-    turns (loaded 0 0 0 nothingKept) (six 0x11 3 5) (one n) (goodAnswer 0) (loaded 0 1 0 nothingKept) ∷
+    turns (loaded 0 0 0 nothingKept) (six 0x11 3 5) (one n) (crossedGood 1) (loaded 0 1 0 nothingKept) ∷
     turns (loaded 0 1 0 nothingKept) (sixteen 0x91 3 0 (2 ^ 63 - 1)) (one n) (goodAnswer 0) (loaded 0 1 0 nothingKept) ∷
     turns (loaded 0 0 0 nothingKept) (locate 1) (one n) (goodAnswer 0) (loaded 0 1 0 nothingKept) ∷
     turns (loaded 0 0 0 nothingKept) (sixteen 0x92 0x18 0 0) (one n) (goodAnswer 0) (loaded 0 1 0 nothingKept) ∷

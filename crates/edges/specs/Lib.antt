@@ -2,3 +2,4 @@ pub mod Cases
 pub mod Traps
 pub mod Sixteen
 pub mod EndOfData
+pub mod Crossed

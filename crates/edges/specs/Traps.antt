@@ -39,10 +39,17 @@ plain key asc ascq = sense18 0x70 key 0 asc ascq
 -- ---- answers
 
 abbrev pub goodAnswer : ℕ → Answer
-goodAnswer carried = answered 0 carried
+goodAnswer carried = answered 0 carried 0
 
 abbrev pub check : ℕ → Answer
-check carried = answered 2 carried
+check carried = answered 2 carried 0
+
+-- of SPACE, by how many objects it crossed (Q-10): GOOD, and not
+abbrev pub crossedGood : ℕ → Answer
+crossedGood n = answered 0 0 n
+
+abbrev pub crossedCheck : ℕ → Answer
+crossedCheck n = answered 2 0 n
 
 -- ---- rows on one partition: what is lent besides, and what is left
 
@@ -92,10 +99,10 @@ traps =
     refuses 3 (loaded 0 0 65536 nothingKept) (six 0x08 1 65536) E [] ∷
     refuses 2 (loaded 0 0 65536 nothingKept) (six 0x0A 1 65536) E [] ∷
     -- the least count there is
-    turns (loaded 0 2 0 nothingKept) (six 0x11 0 0x800000) E (check 0) (loaded 0 1 0 (sense18 0xF0 0x80 0xFF800000 0x00 0x01)) ∷
+    turns (loaded 0 2 0 nothingKept) (six 0x11 0 0x800000) E (crossedCheck 1) (loaded 0 1 0 (sense18 0xF0 0x80 0xFF800000 0x00 0x01)) ∷
     -- nothing written and a move to end of data are GOOD inside the zone
     turns (loaded 0 1 0 nothingKept) (six 0x0A 0 0) full (goodAnswer 0) (loaded 0 1 0 nothingKept) ∷
-    turns (loaded 0 0 0 nothingKept) (six 0x11 3 5) full (goodAnswer 0) (loaded 0 1 0 nothingKept) ∷
+    turns (loaded 0 0 0 nothingKept) (six 0x11 3 5) full (crossedGood 1) (loaded 0 1 0 nothingKept) ∷
     -- end of data inside the zone: READ, SPACE and LOCATE tell 8/00/05 there, with EOM (Q-2)
     alone (loaded 0 1 0 nothingKept) (six 0x08 0 1) full [] (zeros 1) (check 0) (loaded 0 1 0 (sense18 0xF0 0x48 1 0x00 0x05)) full (zeros 1) ∷
     turns (loaded 0 1 0 nothingKept) (six 0x11 0 1) full (check 0) (loaded 0 1 0 (sense18 0xF0 0x48 1 0x00 0x05)) ∷

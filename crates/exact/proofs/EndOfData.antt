@@ -138,28 +138,28 @@ module _ (rec : List ℕ) (x : Lent) where
       go false false e = unfold first unless in rw e refl
 
   -- what is left where end of data is met, with the bit e
-  abbrev Left : Drive → Bool → ℤ → Bool → List ℕ → ℕ → Result
+  abbrev Left : Drive → Bool → ℤ → Bool → List ℕ → ℕ × ℕ → Result
   Left f counts z e b n = written rec (applied (Done (deed f (some (endSense counts z e)) b n)) (looksAt o d (x .cmd)) x)
 
-  left-byte : (f : Drive) (counts : Bool) (z : ℤ) (e g : Bool) (b : List ℕ) (n : ℕ) → Left f counts z e b n ≡ withByte2 (endByte2 e) (Left f counts z g b n)
+  left-byte : (f : Drive) (counts : Bool) (z : ℤ) (e g : Bool) (b : List ℕ) (n : ℕ × ℕ) → Left f counts z e b n ≡ withByte2 (endByte2 e) (Left f counts z g b n)
   unfolding applied laidOut statusOf keptOf
   left-byte f counts z e g b n = ap (λ (y : List ℕ). result (Left f counts z g b n .answer) y (Left f counts z g b n .lent)) (kept-byte f counts z e g)
 
-  left-kept : (f : Drive) (counts : Bool) (z : ℤ) (e : Bool) (b : List ℕ) (n : ℕ) → getD (Left f counts z e b n .rec) byte2At 0 ≡ endByte2 e
+  left-kept : (f : Drive) (counts : Bool) (z : ℤ) (e : Bool) (b : List ℕ) (n : ℕ × ℕ) → getD (Left f counts z e b n .rec) byte2At 0 ≡ endByte2 e
   unfolding applied statusOf keptOf
   left-kept f counts z e b n = byte-kept f counts z e
 
-  left-tells : (f : Drive) (counts : Bool) (z : ℤ) (e : Bool) (b : List ℕ) (n : ℕ) → senseAfter (Left f counts z e b n) ≡ endSense counts z e
+  left-tells : (f : Drive) (counts : Bool) (z : ℤ) (e : Bool) (b : List ℕ) (n : ℕ × ℕ) → senseAfter (Left f counts z e b n) ≡ endSense counts z e
   unfolding applied statusOf keptOf
   left-tells f counts z e b n =
       let s = endSense counts z e in
       ap partsOf (sense-back f (senseBytes s) (sense-whole s)) ∙ parts-made s (told-held counts false e false blankCheck noAdditional endOfDataDetected z (omega arith))
 
-  left-checks : (f : Drive) (counts : Bool) (z : ℤ) (e : Bool) (b : List ℕ) (n : ℕ) → Left f counts z e b n .answer .status ≡ checkCondition
+  left-checks : (f : Drive) (counts : Bool) (z : ℤ) (e : Bool) (b : List ℕ) (n : ℕ × ℕ) → Left f counts z e b n .answer .status ≡ checkCondition
   unfolding applied statusOf
   left-checks f counts z e b n = refl
 
-  left-meets : (f : Drive) (counts : Bool) (z : ℤ) (e : Bool) (b : List ℕ) (n : ℕ) → MeetsEnd (Left f counts z e b n)
+  left-meets : (f : Drive) (counts : Bool) (z : ℤ) (e : Bool) (b : List ℕ) (n : ℕ × ℕ) → MeetsEnd (Left f counts z e b n)
   unfolding told
   left-meets f counts z e b n =
       let s = left-tells f counts z e b n in
@@ -170,7 +170,7 @@ module _ (rec : List ℕ) (x : Lent) where
   data Ends (rule : Seen → Bool) : Type 0 where
     -- not at end of data: the same by every rule
     not-there : (MeetsEnd R → ⊥) → callBy rule rec x ≡ R → Ends rule
-    there : mayMeetEnd o ≡ true → (f : Drive) (counts : Bool) (z : ℤ) (b : List ℕ) (n : ℕ) → first T ≡ none → Well d (x .part0) (x .part1)
+    there : mayMeetEnd o ≡ true → (f : Drive) (counts : Bool) (z : ℤ) (b : List ℕ) (n : ℕ × ℕ) → first T ≡ none → Well d (x .part0) (x .part1)
         → first (tests o d (x .cmd) v (x .sent) (length (x .received))) ≡ none → R ≡ Left f counts z (eomAtEnd v) b n → callBy rule rec x ≡ Left f counts z (rule v) b n → Ends rule
 
   stopped-not : (s : Stop) → first T ≡ some s → MeetsEnd R → ⊥

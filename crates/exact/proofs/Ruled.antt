@@ -23,8 +23,9 @@ use Rattle.commands.specs.Act.{Seen, Deed, good, checked, at, atPartition, endT
 use Rattle.exact.specs.EndOfData.{mayMeetEnd, endToldBy, readVariableBy, runTellsBy, readRunBy, readingBy, spaceTellsBy, spacingBy, locateTellsBy, locatingBy, actBy}
 use Rattle.exact.proofs.Tells.{ToldBy, act-tells}
 
-abbrev pub deed : Drive → Option Sense → List ℕ → ℕ → Deed
-deed d t b n = record { drive = d; tells = t; received = b; carried = n }
+-- with the bytes carried and the objects crossed
+abbrev pub deed : Drive → Option Sense → List ℕ → ℕ × ℕ → Deed
+deed d t b n = record { drive = d; tells = t; received = b; carried = n .0; crossed = n .1 }
 
 -- ---- what is told elsewhere has another key
 
@@ -50,10 +51,10 @@ never-there o h (some r) u s q k =
 
 pub data Ending (rule : Seen → Bool) (o : Operation) (v : Seen) (e e′ : Deed) : Type 0 where
   elsewhere : Elsewhere (e .tells) → e′ ≡ e → Ending rule o v e e′
-  at-end : mayMeetEnd o ≡ true → (d : Drive) (counts : Bool) (z : ℤ) (b : List ℕ) (n : ℕ) → e ≡ deed d (some (endTold counts v z)) b n → e′ ≡ deed d (some (endToldBy rule counts v z)) b n → Ending rule o v e e′
+  at-end : mayMeetEnd o ≡ true → (d : Drive) (counts : Bool) (z : ℤ) (b : List ℕ) (n : ℕ × ℕ) → e ≡ deed d (some (endTold counts v z)) b n → e′ ≡ deed d (some (endToldBy rule counts v z)) b n → Ending rule o v e e′
 
 module _ (rule : Seen → Bool) (d : Drive) (cmd sent : List ℕ) (v : Seen) where
-  run-ends : (w : Ended) (z : ℤ) (e : Drive) (b : List ℕ) (n : ℕ) → Ending rule Read v (deed e (runTells v w z) b n) (deed e (runTellsBy rule v w z) b n)
+  run-ends : (w : Ended) (z : ℤ) (e : Drive) (b : List ℕ) (n : ℕ × ℕ) → Ending rule Read v (deed e (runTells v w z) b n) (deed e (runTellsBy rule v w z) b n)
   unfolding runTells runTellsBy
   run-ends whole z e b n = elsewhere silent refl
   run-ends oddLength z e b n = elsewhere (another _ _ _ _ _ _ _ _ (λ q. omega arith)) refl
@@ -62,7 +63,7 @@ module _ (rule : Seen → Bool) (d : Drive) (cmd sent : List ℕ) (v : Seen) whe
 
   variable-ends : (x : Option Object) → Ending rule Read v (readVariable d cmd v x) (readVariableBy rule d cmd v x)
   unfolding readVariable readVariableBy
-  variable-ends none = at-end refl d true (pos (transferOf cmd)) [] 0 refl refl
+  variable-ends none = at-end refl d true (pos (transferOf cmd)) [] (0, 0) refl refl
   variable-ends (some filemark) = elsewhere (another _ _ _ _ _ _ _ _ (λ q. omega arith)) refl
   variable-ends (some (block bs)) = elsewhere (go (eqb (length bs) (transferOf cmd) || hidden d cmd (length bs))) refl
     where
@@ -81,7 +82,7 @@ module _ (rule : Seen → Bool) (d : Drive) (cmd sent : List ℕ) (v : Seen) whe
           (cond z (good d) (cond f (readRun d v (transferOf cmd) r) (readVariable d cmd v (getElem? (v .objects) (d .position)))))
           (cond z (good d) (cond f (readRunBy rule d v (transferOf cmd) r) (readVariableBy rule d cmd v (getElem? (v .objects) (d .position)))))
       go true f r = elsewhere silent refl
-      go false true r = run-ends (r .why) _ _ _ _
+      go false true r = run-ends (r .why) _ _ _ (length (r .bytes), 0)
       go false false r = variable-ends (getElem? (v .objects) (d .position))
 
   space-ends : (o : Operation) → mayMeetEnd o ≡ true → (code : ℕ) (k : ℤ) → Ending rule o v (spacing d code k v) (spacingBy rule d code k v)
@@ -89,21 +90,21 @@ module _ (rule : Seen → Bool) (d : Drive) (cmd sent : List ℕ) (v : Seen) whe
   space-ends o h code k = go (movement code k (d .position) (v .objects)) ((movement code k (d .position) (v .objects)) .why) k
     where
       go : (m : M.Move) (w : M.Why) (k : ℤ) → Ending rule o v
-          (deed (at d (m .to)) (spaceTells v k (record { to = m .to; moved = m .moved; why = w; distance = m .distance })) [] 0)
-          (deed (at d (m .to)) (spaceTellsBy rule v k (record { to = m .to; moved = m .moved; why = w; distance = m .distance })) [] 0)
+          (deed (at d (m .to)) (spaceTells v k (record { to = m .to; moved = m .moved; why = w; distance = m .distance })) [] (0, m .distance))
+          (deed (at d (m .to)) (spaceTellsBy rule v k (record { to = m .to; moved = m .moved; why = w; distance = m .distance })) [] (0, m .distance))
       go m M.done k = elsewhere silent refl
       go m M.marked k = elsewhere (another _ _ _ _ _ _ _ _ (λ q. omega arith)) refl
-      go m M.edge (pos n) = at-end h _ true _ [] 0 refl refl
+      go m M.edge (pos n) = at-end h _ true _ [] (0, m .distance) refl refl
       go m M.edge (negsuc n) = elsewhere (another _ _ _ _ _ _ _ _ (λ q. omega arith)) refl
 
   locate-ends : (o : Operation) → mayMeetEnd o ≡ true → (k : ℕ) (t : M.Destination) → Ending rule o v (locating d k t v) (locatingBy rule d k t v)
   unfolding locating locatingBy locateTells locateTellsBy
   locate-ends o h k t = go ((M.locate t (cond (eqb k (d .current)) (d .position) 0) (v .objects)) .why) (atPartition d k ((M.locate t (cond (eqb k (d .current)) (d .position) 0) (v .objects)) .to))
     where
-      go : (w : M.Why) (e : Drive) → Ending rule o v (deed e (locateTells v w) [] 0) (deed e (locateTellsBy rule v w) [] 0)
+      go : (w : M.Why) (e : Drive) → Ending rule o v (deed e (locateTells v w) [] (0, 0)) (deed e (locateTellsBy rule v w) [] (0, 0))
       go M.done e = elsewhere silent refl
       go M.marked e = elsewhere silent refl
-      go M.edge e = at-end h e false (pos 0) [] 0 refl refl
+      go M.edge e = at-end h e false (pos 0) [] (0, 0) refl refl
 
   pub act-ends : (o : Operation) → Ending rule o v (act o d cmd sent v) (actBy rule o d cmd sent v)
   unfolding act actBy

@@ -68,7 +68,7 @@ module _ (rule : Seen → Bool) where
   runTellsBy v atEnd z = some (endToldBy true v z)
 
   abbrev pub readRunBy : Drive → Seen → ℕ → Run → Deed
-  readRunBy d v n r = record { drive = at d (d .position + r .crossed); tells = runTellsBy v (r .why) (subℕ n (r .blocks)); received = r .bytes; carried = length (r .bytes) }
+  readRunBy d v n r = record { drive = at d (d .position + r .crossed); tells = runTellsBy v (r .why) (subℕ n (r .blocks)); received = r .bytes; carried = length (r .bytes); crossed = 0 }
 
   unfoldable pub readingBy : Drive → List ℕ → Seen → Deed
   readingBy d cmd v =
@@ -88,7 +88,7 @@ module _ (rule : Seen → Bool) where
   unfoldable pub spacingBy : Drive → ℕ → ℤ → Seen → Deed
   spacingBy d code k v =
       let m = movement code k (d .position) (v .objects) in
-      record { drive = at d (m .to); tells = spaceTellsBy v k m; received = []; carried = 0 }
+      record { drive = at d (m .to); tells = spaceTellsBy v k m; received = []; carried = 0; crossed = m .distance }
 
   unfoldable pub locateTellsBy : Seen → M.Why → Option Sense
   locateTellsBy v M.done = none
@@ -98,7 +98,7 @@ module _ (rule : Seen → Bool) where
   unfoldable pub locatingBy : Drive → ℕ → M.Destination → Seen → Deed
   locatingBy d k t v =
       let m = M.locate t (cond (eqb k (d .current)) (d .position) 0) (v .objects) in
-      record { drive = atPartition d k (m .to); tells = locateTellsBy v (m .why); received = []; carried = 0 }
+      record { drive = atPartition d k (m .to); tells = locateTellsBy v (m .why); received = []; carried = 0; crossed = 0 }
 
   -- every other command is as it is
   unfoldable pub actBy : Operation → Drive → List ℕ → List ℕ → Seen → Deed

@@ -1,9 +1,11 @@
 -- What a C program reads out of the number that an entry returns, macro by macro of include/stormtoggle.h. That this gives back the numbers of the
 -- answer: proofs/Numbers.antt.
 -- Assumes nothing: these are definitions.
-use Prim.Native.Nat.{ℕ, _*_, _/_, _%_, _^_, _<_}
+use Prim.Native.Nat.{ℕ, _+_, _*_, _/_, _%_, _^_, _<_}
 use mathlib.Core.Path.{_≡_}
 use mathlib.Core.Logic.{_⊎_}
+use mathlib.Core.Bool.{cond}
+use lib.Dec.{eqb}
 use Rattle.answers.specs.declared.Answer.{Answer}
 use Rattle.answers.specs.Answers.{checkCondition}
 
@@ -19,6 +21,10 @@ refusalIn n = n / 2 ^ 32 % 8
 abbrev pub statusIn : ℕ → ℕ
 statusIn n = n / 2 ^ 35 % 2 * 2
 
+-- STORMTOGGLE_CROSSED(answer): (uint32_t)((uint64_t)(answer) >> 36)
+abbrev pub crossedIn : ℕ → ℕ
+crossedIn n = n / 2 ^ 36 % 2 ^ 32
+
 -- STORMTOGGLE_VIEW_LENGTH(view): (uint32_t)(view)
 abbrev pub lengthIn : ℕ → ℕ
 lengthIn n = n % 2 ^ 32
@@ -27,19 +33,22 @@ lengthIn n = n % 2 ^ 32
 abbrev pub startIn : ℕ → ℕ
 startIn n = n / 2 ^ 32 % 2 ^ 32
 
--- "SCSI status (00h or 02h)", and what three and thirty-two bits hold
+-- "SCSI status (00h or 02h)", and what three, thirty-two and twenty-eight bits hold
 pub record InBits (a : Answer) : Type 0 where
   pub status : (a .status ≡ 0x00) ⊎ (a .status ≡ checkCondition)
   pub refusal : a .refusal < 8
   pub carried : a .carried < 2 ^ 32
+  pub crossed : a .crossed < 2 ^ 28
 
--- the returned number says the three numbers, and its bits 36 to 63 are 0
+-- the returned number, of 64 bits, says the four numbers; its bits 0 to 35 say the first three as they did without the fourth (Q-10)
 pub record Says (n : ℕ) (a : Answer) : Type 0 where
   pub fits : InBits a
   pub carried : carriedIn n ≡ a .carried
   pub refusal : refusalIn n ≡ a .refusal
   pub status : statusIn n ≡ a .status
-  pub rest : n < 2 ^ 36
+  pub crossed : crossedIn n ≡ a .crossed
+  pub low : n % 2 ^ 36 ≡ a .carried + a .refusal * 2 ^ 32 + cond (eqb (a .status) checkCondition) (2 ^ 35) 0
+  pub whole : n < 2 ^ 64
 
 -- a view's number says the start and the length of the part
 pub record Shows (n start len : ℕ) : Type 0 where

@@ -137,10 +137,10 @@ act-all o d cmd sent v h n = go (classify o) h n
     go (erasing e) h n = absurd (let x : true ≡ false = rw e at n in let z : _≡_ {A = ℕ} 0 1 = cc in omega arith)
     go (quiet m) h n = rw (no-offers o m d cmd sent) (no-events o m d cmd sent v)
 
-good-none : (t : Option Sense) (n : ℕ) → isGood (Answers.answered (statusOf t) n) ≡ true → t ≡ none
+good-none : (t : Option Sense) (n m : ℕ) → isGood (Answers.answered (statusOf t) n m) ≡ true → t ≡ none
 unfolding statusOf
-good-none none n h = refl
-good-none (some s) n h = absurd (let z : _≡_ {A = ℕ} 0 1 = cc in omega arith)
+good-none none n m h = refl
+good-none (some s) n m h = absurd (let z : _≡_ {A = ℕ} 0 1 = cc in omega arith)
 
 -- ---- every call
 
@@ -163,7 +163,7 @@ module _ (rec cmd p0 p1 sent received : List ℕ) where
 
   -- acted
   when-acted : (o : Operation) → operationOf (codeOf cmd) ≡ o → first (commandTests rec (lent cmd p0 p1 sent received)) ≡ none → (r : Result) → commandCall rec (lent cmd p0 p1 sent received) ≡ r
-      → r .answer ≡ Answers.answered (statusOf ((act o (decodeOf rec) cmd sent (seen o (decodeOf rec) (lent cmd p0 p1 sent received))) .tells)) ((act o (decodeOf rec) cmd sent (seen o (decodeOf rec) (lent cmd p0 p1 sent received))) .carried)
+      → r .answer ≡ Answers.answered (statusOf ((act o (decodeOf rec) cmd sent (seen o (decodeOf rec) (lent cmd p0 p1 sent received))) .tells)) ((act o (decodeOf rec) cmd sent (seen o (decodeOf rec) (lent cmd p0 p1 sent received))) .carried) ((act o (decodeOf rec) cmd sent (seen o (decodeOf rec) (lent cmd p0 p1 sent received))) .crossed)
       → caused rec cmd sent r ≡ eventsOf o (decodeOf rec) cmd sent (seen o (decodeOf rec) (lent cmd p0 p1 sent received)) → Answered rec cmd p0 p1 sent received
   when-acted o eo f r e a k =
       let v : Seen = seen o (decodeOf rec) (lent cmd p0 p1 sent received) in
@@ -172,7 +172,7 @@ module _ (rec cmd p0 p1 sent received : List ℕ) where
         stopped = λ s h. absurd (some-none s _ h f);
         acted = λ h. rw eo x;
         carried = λ h. ap (λ (y : Result). y .answer .carried) e ∙ ap (λ y. y .carried) a ∙ act-carried o (decodeOf rec) cmd sent v (sym eo ∙ h) ∙ sym (ap bytesPut x);
-        all-put = λ h n. rw eo (x ∙ act-all o (decodeOf rec) cmd sent v (good-none ((act o (decodeOf rec) cmd sent v) .tells) ((act o (decodeOf rec) cmd sent v) .carried) (ap isGood (sym (ap (λ (y : Result). y .answer) e ∙ a)) ∙ h)) (rw eo at n));
+        all-put = λ h n. rw eo (x ∙ act-all o (decodeOf rec) cmd sent v (good-none ((act o (decodeOf rec) cmd sent v) .tells) ((act o (decodeOf rec) cmd sent v) .carried) ((act o (decodeOf rec) cmd sent v) .crossed) (ap isGood (sym (ap (λ (y : Result). y .answer) e ∙ a)) ∙ h)) (rw eo at n));
       }
 
   pub answered : Answered rec cmd p0 p1 sent received

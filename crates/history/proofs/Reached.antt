@@ -58,7 +58,7 @@ module _ (rec p0 p1 sent received : List ℕ) (m : Mounted rec (cartridge p0 p1)
       ∙ ap (λ (x : Drive). decodeOf (encodeOf (withSense x (keptOf (act o (decodeOf rec) cmd sent v .tells))))) (ap (λ (x : Deed). x .drive) (g v))
       ∙ back (atPartition (decodeOf rec) (number s) 0) (keptOf (act o (decodeOf rec) cmd sent v .tells)) (omega arith) (w .small) (kept-whole (act o (decodeOf rec) cmd sent v .tells)) in
       record {
-        answered-good = ap (λ (x : Result). isGood (x .answer)) q ∙ ap (λ (x : Deed). isGood (answered (statusOf (x .tells)) (x .carried))) (g v);
+        answered-good = ap (λ (x : Result). isGood (x .answer)) q ∙ ap (λ (x : Deed). isGood (answered (statusOf (x .tells)) (x .carried) (x .crossed))) (g v);
         mounted = record {
           no-fault = subst (NoFault (r .rec)) same (command-faultless rec cmd p0 p1 sent received (m .no-fault));
           loaded = ap (λ (x : Drive). x .loaded) d ∙ m .loaded;

@@ -54,7 +54,7 @@ lets false rec p0 p1 sent received f l a r =
 -- what a deed leaves that alters no partition
 abbrev leaves : Deed → Lent → Result
 leaves e x =
-    result (answered (statusOf (e .tells)) (e .carried)) (encodeOf (withSense (e .drive) (keptOf (e .tells))))
+    result (answered (statusOf (e .tells)) (e .carried) (e .crossed)) (encodeOf (withSense (e .drive) (keptOf (e .tells))))
     (lent (x .cmd) (x .part0) (x .part1) (x .sent) (over (x .received) 0 (e .received)))
 
 acts-so : (b : Bool) (d : Drive) (sent p : List ℕ) → act Read d (readLargest b) sent (seenOf p) ≡ readVariable d (readLargest b) (seenOf p) (getElem? (objects p) (d .position))
@@ -87,7 +87,7 @@ told-held counts f e i key asc ascq z h = record { key-small = h; information-sm
 
 -- with CHECK CONDITION and a sense
 met-told : (d : Drive) (s : Sense) (n : ℕ) (x : Lent) → d .position < 2 ^ 32 → d .«block_length» ≤ largestBlock → Spellable s
-    → metOf (result (answered checkCondition n) (encodeOf (withSense d (senseBytes s))) x)
+    → metOf (result (answered checkCondition n 0) (encodeOf (withSense d (senseBytes s))) x)
     ≡ cond (says s blankCheck 0x00 0x05) endOfData
     (cond (says s noSense 0x00 0x01 && s .filemark) (object filemark)
     (cond (says s noSense 0x00 0x00 && s .ili) (object (block (take n (x .received)))) nothingKnown))
@@ -100,7 +100,7 @@ carried-back : (bs received : List ℕ) → take (length bs) (over received 0 bs
 unfolding over
 carried-back bs received = take-append-seam bs (drop (0 + length bs) received)
 
-met-good : (b bs cmd p0 p1 sent received : List ℕ) → metOf (result (answered 0 (length bs)) b (lent cmd p0 p1 sent (over received 0 bs))) ≡ object (block bs)
+met-good : (b bs cmd p0 p1 sent received : List ℕ) → metOf (result (answered 0 (length bs) 0) b (lent cmd p0 p1 sent (over received 0 bs))) ≡ object (block bs)
 unfolding metOf
 met-good b bs cmd p0 p1 sent received = ap (λ (x : List ℕ). object (block x)) (carried-back bs received)
 

@@ -1,2 +1,3 @@
 pub mod Mounted
 pub mod Cases
+pub mod Answered

@@ -1,4 +1,4 @@
-// SPACE, of either length: the walk over blocks or filemarks, where it ends, and what it tells.
+// SPACE, of either length: the walk over blocks or filemarks, where it ends, what it tells, and how many objects it crossed.
 ghost use mathlib.Core.Path.{_≡_};
 ghost use mathlib.Core.Bool.{true, cond};
 ghost use Prim.Native.Nat.{_≤_, _<_};
@@ -17,6 +17,7 @@ ghost use Rattle.deeds.specs.Left.{leftBy};
 use crate::counts::bounded;
 use crate::counts::magnitude;
 use deeds::Left;
+use deeds::crossing;
 use kinds::OVER_BLOCKS;
 use kinds::TO_END;
 use record::Drive;
@@ -60,9 +61,15 @@ fn space_on(s: &[u8], d: Drive, code: u8, n: u32) -> Left
     let why = w.why;
     let gone = deeds::at(d, d.position + w.crossed);
     match why {
-        Why::Done => deeds::good(gone, 0),
-        Why::Marked => deeds::checked(gone, deeds::filemark_met(n, w.counted), 0),
-        Why::Edge => deeds::checked(gone, deeds::end_met(s, n, w.counted), 0),
+        Why::Done => crossing(deeds::good(gone, 0), w.crossed),
+        Why::Marked => crossing(
+            deeds::checked(gone, deeds::filemark_met(n, w.counted), 0),
+            w.crossed,
+        ),
+        Why::Edge => crossing(
+            deeds::checked(gone, deeds::end_met(s, n, w.counted), 0),
+            w.crossed,
+        ),
     }
 }
 
@@ -91,9 +98,15 @@ fn space_back(s: &[u8], d: Drive, code: u8, n: u32) -> Left
     let gone = deeds::at(d, d.position - w.crossed);
     let rest = residue_back(n, w.counted);
     match why {
-        Why::Done => deeds::good(gone, 0),
-        Why::Marked => deeds::checked(gone, deeds::filemark_told(rest), 0),
-        Why::Edge => deeds::checked(gone, deeds::beginning_met(rest), 0),
+        Why::Done => crossing(deeds::good(gone, 0), w.crossed),
+        Why::Marked => crossing(
+            deeds::checked(gone, deeds::filemark_told(rest), 0),
+            w.crossed,
+        ),
+        Why::Edge => crossing(
+            deeds::checked(gone, deeds::beginning_met(rest), 0),
+            w.crossed,
+        ),
     }
 }
 
@@ -104,7 +117,7 @@ fn space_by(s: &[u8], d: Drive, code: u8, steps: i64) -> Left
 {
     if code == TO_END {
         let end = image::count_of(s);
-        return deeds::good(deeds::at(d, end), 0);
+        return crossing(deeds::good(deeds::at(d, end), 0), end - d.position);
     }
     let n = bounded(magnitude(steps));
     if steps < 0 {

@@ -17,7 +17,7 @@ outcomeOf r x = outcome (r .answer) (r .drive) x
 
 -- the answer of an act
 abbrev pub answerOf : Left → Answer
-answerOf l = answered (l .status) (l .carried)
+answerOf l = answered (l .status) (l .carried) (l .crossed)
 
 -- whether the current partition is protected; not so where there is none
 unfoldable pub guardedNow : Drive → List ℕ → List ℕ → Bool

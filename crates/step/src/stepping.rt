@@ -35,13 +35,13 @@ fn refuses(d: Drive, number: u8) -> Served
     }
 }
 
-// CHECK CONDITION, nothing carried, with this sense.
+// CHECK CONDITION, nothing carried and nothing crossed, with this sense.
 fn checks(d: Drive, sense: [u8; SENSE_LENGTH]) -> Served
     ensures { λ r. ⌜ (r .drive ≡ withSense d sense) × (r .answer ≡ checkAnswer) ⌝ }
 {
     Served {
         drive: record::with_sense(d, sense),
-        answer: answers::answered(answers::CHECK_CONDITION, 0),
+        answer: answers::answered(answers::CHECK_CONDITION, 0, 0),
     }
 }
 
@@ -52,7 +52,7 @@ fn answers_with(l: Left) -> Served
     let drive = l.drive;
     Served {
         drive: drive,
-        answer: answers::answered(l.status, l.carried),
+        answer: answers::answered(l.status, l.carried, l.crossed),
     }
 }
 

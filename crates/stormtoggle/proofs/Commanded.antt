@@ -2,14 +2,14 @@
 -- Assumes nothing.
 use Prim.Native.Nat.{ℕ, _<_}
 use native.Mathlib.Omega.{arith}
-use mathlib.Core.Path.{_≡_, refl, sym, ap, _∙_}
+use mathlib.Core.Path.{_≡_, refl, sym, ap, _∙_, subst}
 use mathlib.Core.Bool.{Bool, true, false}
 use mathlib.Core.Option.{some}
 use mathlib.Core.List.{List}
 use borrow.Author.Tests.{eq-eqb, ne-eqb}
 use lib.ListN.{length}
 use Rattle.answers.specs.declared.Answer.{Answer}
-use Rattle.answers.specs.Answers.{refused, packed, first}
+use Rattle.answers.specs.Answers.{refused, InFields, packed, first}
 use Rattle.record.specs.declared.drive.Drive.{Drive}
 use Rattle.record.specs.Record.{recordLength, wellRecord, decodeOf, encodeOf}
 use Rattle.record.proofs.Judged.{no-record}
@@ -18,6 +18,7 @@ use Rattle.commands.specs.Stop.{refuse}
 use Rattle.commands.specs.Call.{Lent, Result, result, written, driveCall, commandTests, commandCall}
 use Rattle.answers.proofs.First.{first-at}
 use Rattle.commands.proofs.Ends.{call-stops, refused-leaves}
+use Rattle.commands.proofs.Crossed.{call-fits}
 use Rattle.step.specs.declared.stepping.Served.{Served}
 use Rattle.step.specs.Served.{outcomeOf}
 use Rattle.commands.specs.Call.{returned, numberedResult}
@@ -52,3 +53,7 @@ module _ (rec : List ℕ) (x : Lent) where
 
 pub returned-is : (n : ℕ) (a : Answer) (rec : List ℕ) (x : Lent) (o : Result) → n ≡ packed a → result a rec x ≡ o → returned n rec x ≡ numberedResult o
 returned-is n a rec x o e q = ap (λ (m : ℕ). returned m rec x) e ∙ ap numberedResult q
+
+-- what the call answers fits its fields
+pub call-packs : (a : Answer) (after rec : List ℕ) (y x : Lent) → result a after y ≡ commandCall rec x → InFields a
+call-packs a after rec y x e = subst InFields (sym (ap (λ (r : Result). r .answer) e)) (call-fits rec x)

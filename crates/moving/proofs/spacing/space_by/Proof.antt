@@ -17,8 +17,14 @@ at-requires c κs = search needs
 good-requires : tie.Need-good-requires
 good-requires c κs = search needs
 
+sub-crossing : tie.Need-sub-crossing
+sub-crossing c = rw (c .before .before .before .count-of .ensures) (c .before .before .before .before .before .before .pre .1)
+
+crossing-requires : tie.Need-crossing-requires
+crossing-requires c κs = search needs
+
 returns : tie.Need-returns
-returns c = spaced-to-end _ _ _ _ _ (c .before .before .before .if1 .taken) _ (c .before .before .count-of .ensures) _ (c .before .at .ensures) (c .good2 .ensures)
+returns c = spaced-to-end _ _ _ _ _ (c .before .before .before .before .before .if1 .taken) (c .before .before .before .before .before .before .before .pre .1) _ (c .before .before .before .before .count-of .ensures) _ (c .before .before .before .at .ensures) _ (c .before .before .good2 .ensures) (c .crossing .ensures)
 
 magnitude-requires : tie.Need-magnitude-requires
 magnitude-requires c κs = search needs
@@ -51,6 +57,8 @@ space-by-spec =
     count-of-requires
     at-requires
     good-requires
+    sub-crossing
+    crossing-requires
     returns
     magnitude-requires
     bounded-requires

@@ -1,7 +1,7 @@
 -- The service's outcome, with its answer packed.
 -- Assumes nothing.
 use borrow.Author.Needs.{needs}
-use Rattle.stormtoggle.proofs.Commanded.{returned-is}
+use Rattle.stormtoggle.proofs.Commanded.{call-packs, returned-is}
 use Rattle.stormtoggle.proofs.command_entry.stormtoggle_command.Statement.{statement}
 use Rattle.stormtoggle.proofs.command_entry.stormtoggle_command.Tie as tie
 
@@ -9,7 +9,7 @@ command-requires : tie.Need-command-requires
 command-requires c κs = search needs
 
 pack-requires : tie.Need-pack-requires
-pack-requires c κs = search needs
+pack-requires c κs = call-packs _ _ _ _ _ (c .before .before .before .before .before .before .before .before .command .ensures)
 
 same-length : tie.Need-same-length
 same-length c = search needs

@@ -1,7 +1,8 @@
 -- The service's outcome, with its answer packed.
 -- Assumes nothing.
 use borrow.Author.Needs.{needs}
-use Rattle.stormtoggle.proofs.Numbered.{numbered-is}
+use Rattle.house.proofs.Answered.{blank-answers}
+use Rattle.stormtoggle.proofs.Numbered.{numbered-is, settled-packs}
 use Rattle.stormtoggle.proofs.house_entries.stormtoggle_blank.Statement.{statement}
 use Rattle.stormtoggle.proofs.house_entries.stormtoggle_blank.Tie as tie
 
@@ -9,7 +10,7 @@ blank-requires : tie.Need-blank-requires
 blank-requires c κs = search needs
 
 pack-requires : tie.Need-pack-requires
-pack-requires c κs = search needs
+pack-requires c κs = settled-packs _ _ _ (blank-answers _) (c .before .before .blank .ensures)
 
 same-length : tie.Need-same-length
 same-length c = search needs

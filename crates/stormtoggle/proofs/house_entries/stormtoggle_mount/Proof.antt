@@ -1,7 +1,8 @@
 -- The service's outcome, with its answer packed.
 -- Assumes nothing.
 use borrow.Author.Needs.{needs}
-use Rattle.stormtoggle.proofs.Numbered.{numbered-is}
+use Rattle.house.proofs.Answered.{mount-answers}
+use Rattle.stormtoggle.proofs.Numbered.{numbered-is, settled-packs}
 use Rattle.stormtoggle.proofs.house_entries.stormtoggle_mount.Statement.{statement}
 use Rattle.stormtoggle.proofs.house_entries.stormtoggle_mount.Tie as tie
 
@@ -9,7 +10,7 @@ mount-requires : tie.Need-mount-requires
 mount-requires c κs = search needs
 
 pack-requires : tie.Need-pack-requires
-pack-requires c κs = search needs
+pack-requires c κs = settled-packs _ _ _ (mount-answers _ _ _) (c .before .before .mount .ensures)
 
 same-length : tie.Need-same-length
 same-length c = search needs
