@@ -10,3 +10,4 @@ pub mod Small
 pub mod Numbers
 pub mod Ranges
 pub mod Residues
+pub mod Crossed

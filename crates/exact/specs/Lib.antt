@@ -4,3 +4,4 @@ pub mod Senses
 pub mod Carried
 pub mod Numbers
 pub mod EndOfData
+pub mod Crossed
