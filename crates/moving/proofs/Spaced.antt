@@ -55,23 +55,23 @@ module _ (s : List ℕ) (c : Code) (n p : ℕ) (w : Walk) where
 
 -- ---- what a movement m by the count k leaves, by why it ended: at f, with the residue z, and with its distance crossed
 
-module _ (d f : Drive) (v : Seen) (k z : ℤ) (m : Move) (there : f ≡ at d (m .to)) (rest : residue k m ≡ z) (l r : Left) (far : r ≡ leftCrossing (m .distance) l) where
-  leaves-good : m .why ≡ done → l ≡ leftBy (carrying 0 (good f)) → r ≡ leftBy (moved d v k m)
+module _ (d f : Drive) (v : Seen) (k z : ℤ) (m : Move) (there : f ≡ at d (m .to)) (rest : residue k m ≡ z) (r : Left) where
+  leaves-good : m .why ≡ done → r ≡ leftCrossing (m .distance) (leftBy (carrying 0 (good f))) → r ≡ leftBy (moved d v k m)
   unfolding spaceTells
-  leaves-good y q = far ∙ ap (leftCrossing (m .distance)) q ∙ rw (there, y) refl
+  leaves-good y q = q ∙ rw (there, y) refl
 
-  module _ (t : Sense) (q : l ≡ leftBy (carrying 0 (checked f t))) where
+  module _ (t : Sense) (q : r ≡ leftCrossing (m .distance) (leftBy (carrying 0 (checked f t)))) where
     leaves-filemark : m .why ≡ marked → t ≡ filemarkMet z → r ≡ leftBy (moved d v k m)
     unfolding spaceTells
-    leaves-filemark y e = far ∙ ap (leftCrossing (m .distance)) q ∙ rw (there, e, ← rest, y) refl
+    leaves-filemark y e = q ∙ rw (there, e, ← rest, y) refl
 
     leaves-end : (n : ℕ) → k ≡ pos n → m .why ≡ edge → t ≡ endMet v z → r ≡ leftBy (moved d v k m)
     unfolding spaceTells
-    leaves-end n h y e = far ∙ ap (leftCrossing (m .distance)) q ∙ rw (there, e, ← rest, h, y) refl
+    leaves-end n h y e = q ∙ rw (there, e, ← rest, h, y) refl
 
     leaves-beginning : (n : ℕ) → k ≡ negsuc n → m .why ≡ edge → t ≡ beginningMet z → r ≡ leftBy (moved d v k m)
     unfolding spaceTells
-    leaves-beginning n h y e = far ∙ ap (leftCrossing (m .distance)) q ∙ rw (there, e, ← rest, h, y) refl
+    leaves-beginning n h y e = q ∙ rw (there, e, ← rest, h, y) refl
 
 -- ---- the residue going on: n less c
 
@@ -113,19 +113,19 @@ module _ (d : Drive) (s : List ℕ) (c : Code) (n : ℕ) (w : Walked) (e : walkO
   unfolding residue ahead
   rest-is-on = rest-on n (w .counted)
 
-  module _ (f : Drive) (there : f ≡ at d (d .position + w .crossed)) (l r : Left) (far : r ≡ leftCrossing (w .crossed) l) where
-    pub on-done : w .why ≡ Done → l ≡ leftBy (carrying 0 (good f)) → r ≡ leftBy (moved d (seenOf s) (pos n) (space c (pos n) (d .position) (objects s)))
+  module _ (f : Drive) (there : f ≡ at d (d .position + w .crossed)) (r : Left) where
+    pub on-done : w .why ≡ Done → r ≡ leftCrossing (w .crossed) (leftBy (carrying 0 (good f))) → r ≡ leftBy (moved d (seenOf s) (pos n) (space c (pos n) (d .position) (objects s)))
     unfolding ahead
-    on-done y q = rw (← went-on) (leaves-good d f (seenOf s) (pos n) _ (ahead (d .position) (walkOf w)) there rest-is-on l r far (ap whyOf y) q)
+    on-done y q = rw (← went-on) (leaves-good d f (seenOf s) (pos n) _ (ahead (d .position) (walkOf w)) there rest-is-on r (ap whyOf y) q)
 
     module _ (t : Sense) where
-      pub on-marked : w .why ≡ Marked → t ≡ filemarkMet (subℕ n (w .counted)) → l ≡ leftBy (carrying 0 (checked f t)) → r ≡ leftBy (moved d (seenOf s) (pos n) (space c (pos n) (d .position) (objects s)))
+      pub on-marked : w .why ≡ Marked → t ≡ filemarkMet (subℕ n (w .counted)) → r ≡ leftCrossing (w .crossed) (leftBy (carrying 0 (checked f t))) → r ≡ leftBy (moved d (seenOf s) (pos n) (space c (pos n) (d .position) (objects s)))
       unfolding ahead
-      on-marked y et q = rw (← went-on) (leaves-filemark d f (seenOf s) (pos n) _ (ahead (d .position) (walkOf w)) there rest-is-on l r far t q (ap whyOf y) et)
+      on-marked y et q = rw (← went-on) (leaves-filemark d f (seenOf s) (pos n) _ (ahead (d .position) (walkOf w)) there rest-is-on r t q (ap whyOf y) et)
 
-      pub on-edge : w .why ≡ Edge → t ≡ endMet (seenOf s) (subℕ n (w .counted)) → l ≡ leftBy (carrying 0 (checked f t)) → r ≡ leftBy (moved d (seenOf s) (pos n) (space c (pos n) (d .position) (objects s)))
+      pub on-edge : w .why ≡ Edge → t ≡ endMet (seenOf s) (subℕ n (w .counted)) → r ≡ leftCrossing (w .crossed) (leftBy (carrying 0 (checked f t))) → r ≡ leftBy (moved d (seenOf s) (pos n) (space c (pos n) (d .position) (objects s)))
       unfolding ahead
-      on-edge y et q = rw (← went-on) (leaves-end d f (seenOf s) (pos n) _ (ahead (d .position) (walkOf w)) there rest-is-on l r far t q n refl (ap whyOf y) et)
+      on-edge y et q = rw (← went-on) (leaves-end d f (seenOf s) (pos n) _ (ahead (d .position) (walkOf w)) there rest-is-on r t q n refl (ap whyOf y) et)
 
 -- ---- back: w is the walk over what lies before the position
 
@@ -146,28 +146,28 @@ module _ (d : Drive) (s : List ℕ) (c : Code) (n : ℕ) (asked : 0 < n) (w : Wa
   unfolding residue astern
   rest-is-back = refl
 
-  module _ (f : Drive) (there : f ≡ at d (d .position - w .crossed)) (l r : Left) (far : r ≡ leftCrossing (w .crossed) l) where
-    pub back-done : w .why ≡ Done → l ≡ leftBy (carrying 0 (good f)) → r ≡ leftBy (moved d (seenOf s) (negℤ (pos n)) (space c (negℤ (pos n)) (d .position) (objects s)))
+  module _ (f : Drive) (there : f ≡ at d (d .position - w .crossed)) (r : Left) where
+    pub back-done : w .why ≡ Done → r ≡ leftCrossing (w .crossed) (leftBy (carrying 0 (good f))) → r ≡ leftBy (moved d (seenOf s) (negℤ (pos n)) (space c (negℤ (pos n)) (d .position) (objects s)))
     unfolding astern
-    back-done y q = rw (← went-back) (leaves-good d f (seenOf s) (negℤ (pos n)) _ (astern (d .position) (walkOf w)) there rest-is-back l r far (ap whyOf y) q)
+    back-done y q = rw (← went-back) (leaves-good d f (seenOf s) (negℤ (pos n)) _ (astern (d .position) (walkOf w)) there rest-is-back r (ap whyOf y) q)
 
-    module _ (t : Sense) (left : l ≡ leftBy (carrying 0 (checked f t))) where
+    module _ (t : Sense) (left : r ≡ leftCrossing (w .crossed) (leftBy (carrying 0 (checked f t)))) where
       pub back-marked : w .why ≡ Marked → t ≡ filemarkMet (negℤ (pos n) -ℤ negℤ (pos (w .counted))) → r ≡ leftBy (moved d (seenOf s) (negℤ (pos n)) (space c (negℤ (pos n)) (d .position) (objects s)))
       unfolding astern
-      back-marked y et = rw (← went-back) (leaves-filemark d f (seenOf s) (negℤ (pos n)) _ (astern (d .position) (walkOf w)) there rest-is-back l r far t left (ap whyOf y) et)
+      back-marked y et = rw (← went-back) (leaves-filemark d f (seenOf s) (negℤ (pos n)) _ (astern (d .position) (walkOf w)) there rest-is-back r t left (ap whyOf y) et)
 
       pub back-edge : w .why ≡ Edge → t ≡ beginningMet (negℤ (pos n) -ℤ negℤ (pos (w .counted))) → r ≡ leftBy (moved d (seenOf s) (negℤ (pos n)) (space c (negℤ (pos n)) (d .position) (objects s)))
       unfolding astern
-      back-edge y et = rw (← went-back) (leaves-beginning d f (seenOf s) (negℤ (pos n)) _ (astern (d .position) (walkOf w)) there rest-is-back l r far t left (n - 1) (negated n asked) (ap whyOf y) et)
+      back-edge y et = rw (← went-back) (leaves-beginning d f (seenOf s) (negℤ (pos n)) _ (astern (d .position) (walkOf w)) there rest-is-back r t left (n - 1) (negated n asked) (ap whyOf y) et)
 
 -- ---- SPACE by the code and the count z: to the end; or on or back by n, which is what z asks for but for what no image holds
 
 module _ (d : Drive) (s : List ℕ) (code : ℕ) (z : ℤ) (r : Left) where
-  pub spaced-to-end : code ≡ toEnd → d .position ≤ count s → (n : ℕ) → n ≡ count s → (f : Drive) → f ≡ at d n → (l : Left) → l ≡ leftBy (carrying 0 (good f)) → r ≡ leftCrossing (n - d .position) l → r ≡ leftBy (spacing d code z (seenOf s))
+  pub spaced-to-end : code ≡ toEnd → d .position ≤ count s → (n : ℕ) → n ≡ count s → (f : Drive) → f ≡ at d n → r ≡ leftCrossing (n - d .position) (leftBy (carrying 0 (good f))) → r ≡ leftBy (spacing d code z (seenOf s))
   unfolding spacing movement toEndOfData spaceTells seenOf
-  spaced-to-end h p n en f there l q far =
+  spaced-to-end h p n en f there q =
       let far-is : n - d .position ≡ (d .position - count s) + (count s - d .position) = omega arith in
-      far ∙ rw (q, far-is, there, en, eq-eqb code toEnd h, length-objects s) refl
+      q ∙ rw (far-is, there, en, eq-eqb code toEnd h, length-objects s) refl
 
   module _ (h : sound s ≡ true) (l : d .position ≤ count s) (u : code ≡ toEnd → ⊥) where
     abbrev c : Code

@@ -11,18 +11,18 @@ ghost use Rattle.image.specs.Image.{count, sound, objects};
 ghost use Rattle.sense.specs.Sense.{Shows};
 ghost use Rattle.codes.specs.Fields.{spaceCodeOf, spaceCountOf, spaceCount16Of};
 ghost use Rattle.walks.specs.Walks.{walkOf};
-ghost use Rattle.commands.specs.Act.{moved, overBlocks, spacing};
+ghost use Rattle.commands.specs.Act.{carrying, good, checked, moved, overBlocks, spacing};
 ghost use Rattle.commands.specs.Call.{seenOf};
-ghost use Rattle.deeds.specs.Left.{leftBy};
+ghost use Rattle.deeds.specs.Left.{leftBy, leftCrossing};
 use crate::counts::bounded;
 use crate::counts::magnitude;
 use deeds::Left;
-use deeds::crossing;
 use kinds::OVER_BLOCKS;
 use kinds::TO_END;
 use record::Drive;
 use sense::PAST_32_BITS;
 use sense::Residue;
+use sense::Sense;
 use walks::Walked;
 use walks::Why;
 use walks::blocks_back;
@@ -52,6 +52,20 @@ fn walk_back(s: &[u8], code: u8, p: u32, n: u32) -> Walked
     filemarks_back(s, p, n)
 }
 
+// GOOD there, with so many objects crossed.
+fn reaches(there: Drive, crossed: u32) -> Left
+    ensures { λ r. ⌜ r ≡ leftCrossing crossed (leftBy (carrying 0 (good there))) ⌝ }
+{
+    deeds::crossing(deeds::good(there, 0), crossed)
+}
+
+// CHECK CONDITION there, with this sense and so many objects crossed.
+fn halts(there: Drive, told: Sense, crossed: u32) -> Left
+    ensures { λ r. ⌜ r ≡ leftCrossing crossed (leftBy (carrying 0 (checked there told))) ⌝ }
+{
+    deeds::crossing(deeds::checked(there, told, 0), crossed)
+}
+
 // SPACE by the count n: the residue is n - counted.
 fn space_on(s: &[u8], d: Drive, code: u8, n: u32) -> Left
     requires { ⌜ (sound (now s) ≡ true) × (d .position ≤ count (now s)) ⌝ }
@@ -61,15 +75,9 @@ fn space_on(s: &[u8], d: Drive, code: u8, n: u32) -> Left
     let why = w.why;
     let gone = deeds::at(d, d.position + w.crossed);
     match why {
-        Why::Done => crossing(deeds::good(gone, 0), w.crossed),
-        Why::Marked => crossing(
-            deeds::checked(gone, deeds::filemark_met(n, w.counted), 0),
-            w.crossed,
-        ),
-        Why::Edge => crossing(
-            deeds::checked(gone, deeds::end_met(s, n, w.counted), 0),
-            w.crossed,
-        ),
+        Why::Done => reaches(gone, w.crossed),
+        Why::Marked => halts(gone, deeds::filemark_met(n, w.counted), w.crossed),
+        Why::Edge => halts(gone, deeds::end_met(s, n, w.counted), w.crossed),
     }
 }
 
@@ -98,15 +106,9 @@ fn space_back(s: &[u8], d: Drive, code: u8, n: u32) -> Left
     let gone = deeds::at(d, d.position - w.crossed);
     let rest = residue_back(n, w.counted);
     match why {
-        Why::Done => crossing(deeds::good(gone, 0), w.crossed),
-        Why::Marked => crossing(
-            deeds::checked(gone, deeds::filemark_told(rest), 0),
-            w.crossed,
-        ),
-        Why::Edge => crossing(
-            deeds::checked(gone, deeds::beginning_met(rest), 0),
-            w.crossed,
-        ),
+        Why::Done => reaches(gone, w.crossed),
+        Why::Marked => halts(gone, deeds::filemark_told(rest), w.crossed),
+        Why::Edge => halts(gone, deeds::beginning_met(rest), w.crossed),
     }
 }
 
@@ -117,7 +119,7 @@ fn space_by(s: &[u8], d: Drive, code: u8, steps: i64) -> Left
 {
     if code == TO_END {
         let end = image::count_of(s);
-        return crossing(deeds::good(deeds::at(d, end), 0), end - d.position);
+        return reaches(deeds::at(d, end), end - d.position);
     }
     let n = bounded(magnitude(steps));
     if steps < 0 {

@@ -20,11 +20,8 @@ residue-back-requires c κs = counts-within _ _ _ _ (c .before .before .before .
 enum-told : tie.Need-enum-told
 enum-told c = search needs
 
-good-requires : tie.Need-good-requires
-good-requires c κs = search needs
-
-crossing-requires : tie.Need-crossing-requires
-crossing-requires c κs = search needs
+reaches-requires : tie.Need-reaches-requires
+reaches-requires c κs = search needs
 
 enum-told-2 : tie.Need-enum-told-2
 enum-told-2 c = search needs
@@ -32,11 +29,8 @@ enum-told-2 c = search needs
 filemark-told-requires : tie.Need-filemark-told-requires
 filemark-told-requires c κs = search needs
 
-checked-requires : tie.Need-checked-requires
-checked-requires c κs = search needs
-
-crossing-requires-2 : tie.Need-crossing-requires-2
-crossing-requires-2 c κs = search needs
+halts-requires : tie.Need-halts-requires
+halts-requires c κs = search needs
 
 enum-told-3 : tie.Need-enum-told-3
 enum-told-3 c = search needs
@@ -44,20 +38,17 @@ enum-told-3 c = search needs
 beginning-met-requires : tie.Need-beginning-met-requires
 beginning-met-requires c κs = search needs
 
-checked-requires-2 : tie.Need-checked-requires-2
-checked-requires-2 c κs = search needs
-
-crossing-requires-3 : tie.Need-crossing-requires-3
-crossing-requires-3 c κs = search needs
+halts-requires-2 : tie.Need-halts-requires-2
+halts-requires-2 c κs = search needs
 
 returns : tie.Need-returns
-returns c = back-done _ _ _ _ (c .before .before .before .before .before .before .before .before .before .before .pre .2) _ (c .before .before .before .before .before .before .before .before .walk-back .ensures) _ (c .before .before .before .before .before .at .ensures) _ _ (c .crossing .ensures) (c .before .before .enum-told .given .1) (c .before .good2 .ensures)
+returns c = back-done _ _ _ _ (c .before .before .before .before .before .before .before .before .before .pre .2) _ (c .before .before .before .before .before .before .before .walk-back .ensures) _ (c .before .before .before .before .at .ensures) _ (c .before .enum-told .given .1) (c .reaches .ensures)
 
 returns-2 : tie.Need-returns-2
-returns-2 c = back-marked _ _ _ _ (c .before .before .before .before .before .before .before .before .before .before .before .pre .2) _ (c .before .before .before .before .before .before .before .before .before .walk-back .ensures) _ (c .before .before .before .before .before .before .at .ensures) _ _ (c .crossing2 .ensures) _ (c .before .checked .ensures) (c .before .before .before .enum-told2 .given .1) (c .before .before .filemark-told .ensures _ (c .before .before .before .before .before .residue-back .ensures))
+returns-2 c = back-marked _ _ _ _ (c .before .before .before .before .before .before .before .before .before .before .pre .2) _ (c .before .before .before .before .before .before .before .before .walk-back .ensures) _ (c .before .before .before .before .before .at .ensures) _ _ (c .halts .ensures) (c .before .before .enum-told2 .given .1) (c .before .filemark-told .ensures _ (c .before .before .before .before .residue-back .ensures))
 
 returns-3 : tie.Need-returns-3
-returns-3 c = back-edge _ _ _ _ (c .before .before .before .before .before .before .before .before .before .before .before .pre .2) _ (c .before .before .before .before .before .before .before .before .before .walk-back .ensures) _ (c .before .before .before .before .before .before .at .ensures) _ _ (c .crossing3 .ensures) _ (c .before .checked2 .ensures) (c .before .before .before .enum-told3 .given .1) (c .before .before .beginning-met .ensures _ (c .before .before .before .before .before .residue-back .ensures))
+returns-3 c = back-edge _ _ _ _ (c .before .before .before .before .before .before .before .before .before .before .pre .2) _ (c .before .before .before .before .before .before .before .before .walk-back .ensures) _ (c .before .before .before .before .before .at .ensures) _ _ (c .halts2 .ensures) (c .before .before .enum-told3 .given .1) (c .before .beginning-met .ensures _ (c .before .before .before .before .residue-back .ensures))
 
 pub space-back-spec : {M : Type 1} → statement M
 space-back-spec =
@@ -68,16 +59,13 @@ space-back-spec =
     at-requires
     residue-back-requires
     enum-told
-    good-requires
-    crossing-requires
+    reaches-requires
     enum-told-2
     filemark-told-requires
-    checked-requires
-    crossing-requires-2
+    halts-requires
     enum-told-3
     beginning-met-requires
-    checked-requires-2
-    crossing-requires-3
+    halts-requires-2
     returns
     returns-2
     returns-3)

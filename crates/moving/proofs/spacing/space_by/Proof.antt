@@ -14,17 +14,14 @@ count-of-requires c κs = trailer-in _ (c .before .before .pre .0)
 at-requires : tie.Need-at-requires
 at-requires c κs = search needs
 
-good-requires : tie.Need-good-requires
-good-requires c κs = search needs
+sub-reaches : tie.Need-sub-reaches
+sub-reaches c = rw (c .before .before .count-of .ensures) (c .before .before .before .before .before .pre .1)
 
-sub-crossing : tie.Need-sub-crossing
-sub-crossing c = rw (c .before .before .before .count-of .ensures) (c .before .before .before .before .before .before .pre .1)
-
-crossing-requires : tie.Need-crossing-requires
-crossing-requires c κs = search needs
+reaches-requires : tie.Need-reaches-requires
+reaches-requires c κs = search needs
 
 returns : tie.Need-returns
-returns c = spaced-to-end _ _ _ _ _ (c .before .before .before .before .before .if1 .taken) (c .before .before .before .before .before .before .before .pre .1) _ (c .before .before .before .before .count-of .ensures) _ (c .before .before .before .at .ensures) _ (c .before .before .good2 .ensures) (c .crossing .ensures)
+returns c = spaced-to-end _ _ _ _ _ (c .before .before .before .before .if1 .taken) (c .before .before .before .before .before .before .pre .1) _ (c .before .before .before .count-of .ensures) _ (c .before .before .at .ensures) (c .reaches .ensures)
 
 magnitude-requires : tie.Need-magnitude-requires
 magnitude-requires c κs = search needs
@@ -56,9 +53,8 @@ space-by-spec =
     (tie.spec
     count-of-requires
     at-requires
-    good-requires
-    sub-crossing
-    crossing-requires
+    sub-reaches
+    reaches-requires
     returns
     magnitude-requires
     bounded-requires

@@ -18,11 +18,8 @@ at-requires c κs = search needs
 enum-told : tie.Need-enum-told
 enum-told c = search needs
 
-good-requires : tie.Need-good-requires
-good-requires c κs = search needs
-
-crossing-requires : tie.Need-crossing-requires
-crossing-requires c κs = search needs
+reaches-requires : tie.Need-reaches-requires
+reaches-requires c κs = search needs
 
 enum-told-2 : tie.Need-enum-told-2
 enum-told-2 c = search needs
@@ -30,11 +27,8 @@ enum-told-2 c = search needs
 filemark-met-requires : tie.Need-filemark-met-requires
 filemark-met-requires c κs = search needs
 
-checked-requires : tie.Need-checked-requires
-checked-requires c κs = search needs
-
-crossing-requires-2 : tie.Need-crossing-requires-2
-crossing-requires-2 c κs = search needs
+halts-requires : tie.Need-halts-requires
+halts-requires c κs = search needs
 
 enum-told-3 : tie.Need-enum-told-3
 enum-told-3 c = search needs
@@ -42,20 +36,17 @@ enum-told-3 c = search needs
 end-met-requires : tie.Need-end-met-requires
 end-met-requires c κs = search needs
 
-checked-requires-2 : tie.Need-checked-requires-2
-checked-requires-2 c κs = search needs
-
-crossing-requires-3 : tie.Need-crossing-requires-3
-crossing-requires-3 c κs = search needs
+halts-requires-2 : tie.Need-halts-requires-2
+halts-requires-2 c κs = search needs
 
 returns : tie.Need-returns
-returns c = on-done _ _ _ _ _ (c .before .before .before .before .before .before .before .walk-on .ensures) _ (c .before .before .before .before .at .ensures) _ _ (c .crossing .ensures) (c .before .before .enum-told .given .1) (c .before .good2 .ensures)
+returns c = on-done _ _ _ _ _ (c .before .before .before .before .before .before .walk-on .ensures) _ (c .before .before .before .at .ensures) _ (c .before .enum-told .given .1) (c .reaches .ensures)
 
 returns-2 : tie.Need-returns-2
-returns-2 c = on-marked _ _ _ _ _ (c .before .before .before .before .before .before .before .before .walk-on .ensures) _ (c .before .before .before .before .before .at .ensures) _ _ (c .crossing2 .ensures) _ (c .before .before .before .enum-told2 .given .1) (c .before .before .filemark-met .ensures) (c .before .checked .ensures)
+returns-2 c = on-marked _ _ _ _ _ (c .before .before .before .before .before .before .before .walk-on .ensures) _ (c .before .before .before .before .at .ensures) _ _ (c .before .before .enum-told2 .given .1) (c .before .filemark-met .ensures) (c .halts .ensures)
 
 returns-3 : tie.Need-returns-3
-returns-3 c = on-edge _ _ _ _ _ (c .before .before .before .before .before .before .before .before .walk-on .ensures) _ (c .before .before .before .before .before .at .ensures) _ _ (c .crossing3 .ensures) _ (c .before .before .before .enum-told3 .given .1) (c .before .before .end-met .ensures) (c .before .checked2 .ensures)
+returns-3 c = on-edge _ _ _ _ _ (c .before .before .before .before .before .before .before .walk-on .ensures) _ (c .before .before .before .before .at .ensures) _ _ (c .before .before .enum-told3 .given .1) (c .before .end-met .ensures) (c .halts2 .ensures)
 
 pub space-on-spec : {M : Type 1} → statement M
 space-on-spec =
@@ -65,16 +56,13 @@ space-on-spec =
     add-at
     at-requires
     enum-told
-    good-requires
-    crossing-requires
+    reaches-requires
     enum-told-2
     filemark-met-requires
-    checked-requires
-    crossing-requires-2
+    halts-requires
     enum-told-3
     end-met-requires
-    checked-requires-2
-    crossing-requires-3
+    halts-requires-2
     returns
     returns-2
     returns-3)
