@@ -166,6 +166,8 @@ static inline int print_answer(FILE *to, uint64_t answer, const uint8_t *record)
     int printed = is_good ? fprintf(to, "GOOD") : print_sense(to, record + STORMTOGGLE_RECORD_SENSE);
     if (STORMTOGGLE_CARRIED(answer) > 0)
         printed += fprintf(to, ", %u bytes", (unsigned)STORMTOGGLE_CARRIED(answer));
+    if (STORMTOGGLE_CROSSED(answer) > 0)
+        printed += fprintf(to, ", %u crossed", (unsigned)STORMTOGGLE_CROSSED(answer));
     return printed;
 }
 

@@ -61,6 +61,12 @@ static void expect_carried(const struct drive *d, uint32_t carried)
     must_equal(d, "the number of bytes carried", STORMTOGGLE_CARRIED(d->answer), carried);
 }
 
+/* By SPACE; a filemark that stops it is crossed, and is not in its residue. */
+static void expect_crossed(const struct drive *d, long objects)
+{
+    must_equal(d, "the number of objects crossed", STORMTOGGLE_CROSSED(d->answer), objects);
+}
+
 /* The refusal comes first, for a refused command leaves the sense of the one before. GOOD leaves the empty sense. */
 static void expect(const struct drive *d, enum condition condition, long residue, int partition, long object)
 {
@@ -157,8 +163,10 @@ static void go_back(struct drive *d)
     puts("\nBack over a filemark, and a tile read");
     space(d, BLOCKS, -5);
     expect(d, FILEMARK_DETECTED, -5, TILES, 8);
+    expect_crossed(d, 1);
     space(d, BLOCKS, -1);
     expect_good(d, TILES, 7);
+    expect_crossed(d, 1);
     read_block(d, bytes, TILE);
     expect_good(d, TILES, 8);
     expect_carried(d, TILE);
@@ -167,6 +175,7 @@ static void go_back(struct drive *d)
     expect(d, FILEMARK_DETECTED, TILE, TILES, 9);
     space(d, FILEMARKS, -9);
     expect(d, BEGINNING_OF_PARTITION, -6, TILES, 0);
+    expect_crossed(d, 9);
     read_block(d, bytes, sizeof bytes);
     expect(d, WRONG_LENGTH, 256, TILES, 1);
     expect_carried(d, TILE);
@@ -296,6 +305,30 @@ static void plan_the_change(struct drive *d)
     expect_good(d, TILES, 21);
 }
 
+/* Support tells a long wind from a host that hangs by how far a SPACE had to go, which its residue does not say. */
+static void tell_support(const struct drive *d, long objects)
+{
+    expect_crossed(d, objects);
+    printf("    support: %ld objects went by%s\n", objects, objects > 0 ? "" : ", so any wait is the host's own");
+}
+
+static void wind(struct drive *d)
+{
+    puts("\nA long wind, told from a hung host");
+    space_16(d, FILEMARKS, -(INT64_C(1) << 40));
+    expect(d, BEGINNING_OF_PARTITION, 0, TILES, 0);
+    tell_support(d, 21);
+    space_16(d, FILEMARKS, -(INT64_C(1) << 40));
+    expect(d, BEGINNING_OF_PARTITION, 0, TILES, 0);
+    tell_support(d, 0);
+    space(d, BLOCKS, 5);
+    expect(d, FILEMARK_DETECTED, 4, TILES, 2);
+    tell_support(d, 2);
+    space(d, TO_END_OF_DATA, 0);
+    expect_good(d, TILES, 21);
+    tell_support(d, 19);
+}
+
 static void close_the_day(struct drive *d)
 {
     uint8_t tile[TILE];
@@ -351,6 +384,7 @@ int main(int count, char **words)
     go_in_sixteen_bytes(&d);
     fill(&d);
     plan_the_change(&d);
+    wind(&d);
     close_the_day(&d);
     for (int i = TILES; i <= INDEX; i++)
         if (msync(d.tape[i].image, d.tape[i].length, MS_SYNC) != 0 || munmap(d.tape[i].image, d.tape[i].length) != 0)

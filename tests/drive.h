@@ -12,7 +12,7 @@
 /* Objects are words: bK is a block of K bytes, B the largest there is, f a filemark, fK is K of them. Behind @K they go
  * on from byte K, wherever the last one ended. All cartridges before UNSOUND are sound, and none from it on. */
 enum cartridge {
-    NONE, E, GUARDED, BLANK, BLANK_65, TEN, FULL, MIXED, FILES, PARTED, BIG,
+    NONE, E, GUARDED, BLANK, BLANK_65, TEN, FULL, MIXED, FILES, PARTED, PAIR, MARKS, BIG,
     LEFT_3, LEFT_2, MARKED_3, MARKED_2, GUARDED_3, GUARDED_2, LEFT_4_OF_65, LEFT_3_OF_65, LEFT_4_OF_80, LEFT_3_OF_80,
     BIG_BEFORE, BIG_IN,
     UNSOUND, OVERLAPPING, BLOCK_OF_0, FILEMARK_AT_1, FILEMARKS_AT_5
@@ -35,6 +35,8 @@ static const struct tape {
     [MIXED] = {96, 0, 0xee, "b3 f b3 b3 b5 f b3"},
     [FILES] = {SHORTEST, 0, 0xee, "b1 b2 f b3 f"},
     [PARTED] = {SHORTEST, 0, 0xee, "b3 f b2"},
+    [PAIR] = {SHORTEST, 0, 0xee, "b1 b2 f"},
+    [MARKS] = {SHORTEST, 0, 0xee, "f3"},
     [BIG] = {2 * LARGEST_BLOCK + SHORTEST, 0, 0xee, "B"},
     [LEFT_3] = {SHORTEST, 0, 0xee, "b41"},
     [LEFT_2] = {SHORTEST, 0, 0xee, "b42"},
@@ -106,6 +108,7 @@ struct edge {
     struct drive after; /* its sense is what is told */
     struct told told;
     uint32_t carried;  /* from the bytes sent; what is received counts by itself */
+    uint32_t crossed;  /* objects, by SPACE */
     struct bytes data; /* bytes received, from the first on */
     size_t reads;      /* the same, where they are what the partition holds from the position on */
     const char *puts;  /* objects put from the position on, of the bytes sent */
@@ -213,6 +216,13 @@ static inline void change_tape(struct call *call, const struct edge *edge, enum 
         memset(image + end, 0, directory - end);
 }
 
+/* The whole answer of a command that is not refused. */
+static inline uint64_t answer_wanted(const struct edge *edge)
+{
+    return (edge->carried + edge->data.length + edge->reads) | (uint64_t)(edge->told.first != 0) << ANSWER_STATUS |
+           (uint64_t)edge->crossed << ANSWER_CROSSED;
+}
+
 static inline struct call call_of(const struct edge *edge)
 {
     enum span current = edge->before.current == 1 ? PARTITION_1 : PARTITION_0;
@@ -221,8 +231,7 @@ static inline struct call call_of(const struct edge *edge)
     call.answer = REFUSED(edge->refusal);
     if (edge->refusal != 0)
         return call;
-    call.answer = (uint64_t)(edge->told.first != 0) << ANSWER_STATUS;
-    call.answer |= edge->carried + edge->data.length + edge->reads;
+    call.answer = answer_wanted(edge);
     lay_told(call.after[THE_RECORD], &edge->after, &edge->told);
     memcpy(call.after[THE_RECEIVED], edge->data.at, edge->data.length);
     if (edge->reads > 0)
@@ -267,6 +276,14 @@ static inline void hold_read_only(const struct call *call, const char *what)
     expect_in_child(answer_of(lent, call->length) == call->answer, "on read-only pages, %s", what);
 }
 
+/* SPACE crosses what lies between the positions, and nothing else crosses, or the case itself is wrong. */
+static inline void hold_crossed(const struct edge *edge, uint32_t from, const char *what)
+{
+    int is_space = edge->command.at[0] == SPACE || edge->command.at[0] == SPACE_16;
+    uint32_t to = edge->refusal != 0 ? from : edge->after.position, distance = from < to ? to - from : from - to;
+    expect_equal(edge->crossed, is_space ? distance : 0, "the case, objects crossed of %s", what);
+}
+
 /* A partition that is changed must be sound again, or the case itself is wrong. */
 static inline void hold_sound(const struct call *call, const char *what)
 {
@@ -275,18 +292,24 @@ static inline void hold_sound(const struct call *call, const char *what)
             expect(sound(call->after[span], call->length[span]), "the case, %s of %s", span_names[span], what);
 }
 
+static inline void free_call(struct call *call)
+{
+    for (int span = 0; span < SPANS; span++) {
+        free(call->before[span]);
+        free(call->after[span]);
+    }
+}
+
 static inline void run(const struct edge *edges, size_t count)
 {
     for (const struct edge *edge = edges; edge < edges + count; edge++) {
         struct call call = call_of(edge);
+        hold_crossed(edge, edge->before.position, edge->what);
         hold_sound(&call, edge->what);
         hold_to(&call, 0, edge->what);
         hold_to(&call, 1, edge->what);
         hold_read_only(&call, edge->what);
-        for (int span = 0; span < SPANS; span++) {
-            free(call.before[span]);
-            free(call.after[span]);
-        }
+        free_call(&call);
         cases_run++;
     }
 }

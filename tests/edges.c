@@ -1,6 +1,7 @@
 /* edges.c: commands at the edges held to documents 01 and 02, called as a C daemon calls them. */
 #define _DEFAULT_SOURCE
 #include "drive.h"
+#include "edges_crossed.h"
 #include "edges_data.h"
 #include "edges_ends.h"
 #include "edges_long.h"
@@ -29,10 +30,10 @@ static const struct edge documented[] = {
      .room = 16, .after = SET(3, 2), .told = RESIDUE(TOLD_FILEMARK, 1), .data = BYTES(1, 2, 3)},
     {"P9: FIXED READ 2 where the first block is odd", E, SIX(READ, FIXED, 2), SET(4, 0),
      .room = 16, .after = SET(4, 1), .told = RESIDUE(TOLD_LENGTH, 2)},
-    {"P10: SPACE blocks -5 meets the filemark", E, SIX(SPACE, BLOCKS, -5), AT(2),
-     .after = AT(1), .told = RESIDUE(TOLD_FILEMARK, 0xfffffffb)},
-    {"P11: SPACE blocks -5 meets the beginning", E, SIX(SPACE, BLOCKS, -5), AT(1),
-     .after = AT(0), .told = RESIDUE(TOLD_BEGINNING, 0xfffffffc)},
+    {"P10: SPACE blocks -5 meets the filemark", E, SIX(SPACE, BLOCKS, -5), AT(2), .after = AT(1), .crossed = 1,
+     .told = RESIDUE(TOLD_FILEMARK, 0xfffffffb)},
+    {"P11: SPACE blocks -5 meets the beginning", E, SIX(SPACE, BLOCKS, -5), AT(1), .after = AT(0), .crossed = 1,
+     .told = RESIDUE(TOLD_BEGINNING, 0xfffffffc)},
     {"P12: LOCATE to N", E, LOCATE(0, 2, 0), AT(0), .after = AT(2)},
     {"P12: LOCATE above N", E, LOCATE(0, 3, 0), AT(0), .after = AT(2), .told = PLAIN(TOLD_END_OF_DATA)},
     {"READ 5 of a filemark", E, SIX(READ, 0, 5), AT(1),
@@ -61,12 +62,12 @@ static const struct edge slips[] = {
     {"slip 2: the room amid objects, to its last byte", MIXED, SIX(WRITE, 0, 65), AT(2),
      .sent = 65, .after = AT(3), .told = RESIDUE(TOLD_ZONE, 0), .carried = 65, .puts = "b65"},
     /* A filemark met going back is crossed: the position is on its beginning side. */
-    {"slip 3: SPACE blocks -1 over a filemark", E, SIX(SPACE, BLOCKS, -1), AT(2),
-     .after = AT(1), .told = RESIDUE(TOLD_FILEMARK, 0xffffffff)},
-    {"slip 3: SPACE blocks -2 over a block and a filemark", MIXED, SIX(SPACE, BLOCKS, -2), AT(7),
-     .after = AT(5), .told = RESIDUE(TOLD_FILEMARK, 0xffffffff)},
-    {"slip 3: SPACE filemarks -1", MIXED, SIX(SPACE, FILEMARKS, -1), AT(7), .after = AT(5)},
-    {"slip 3: SPACE filemarks -2", MIXED, SIX(SPACE, FILEMARKS, -2), AT(7), .after = AT(1)},
+    {"slip 3: SPACE blocks -1 over a filemark", E, SIX(SPACE, BLOCKS, -1), AT(2), .after = AT(1), .crossed = 1,
+     .told = RESIDUE(TOLD_FILEMARK, 0xffffffff)},
+    {"slip 3: SPACE blocks -2 over a block and a filemark", MIXED, SIX(SPACE, BLOCKS, -2), AT(7), .after = AT(5),
+     .crossed = 2, .told = RESIDUE(TOLD_FILEMARK, 0xffffffff)},
+    {"slip 3: SPACE filemarks -1", MIXED, SIX(SPACE, FILEMARKS, -1), AT(7), .after = AT(5), .crossed = 2},
+    {"slip 3: SPACE filemarks -2", MIXED, SIX(SPACE, FILEMARKS, -2), AT(7), .after = AT(1), .crossed = 6},
     /* A block of another length is crossed, and is none of those read. */
     {"slip 4: FIXED READ 3, the third block odd", MIXED, SIX(READ, FIXED, 3), SET(3, 2),
      .room = 16, .after = SET(3, 5), .told = RESIDUE(TOLD_LENGTH, 1), .reads = 6},
@@ -91,7 +92,7 @@ static const struct edge life[] = {
     {.what = "LOCATE to the blank", .command = LOCATE(CP, 0, 1), .after = TWO(1, 0)},
     {.what = "WRITE of a block", .command = SIX(WRITE, 0, 2), .list = BYTES(8, 9), .after = TWO(1, 1), .carried = 2},
     {.what = "WRITE of a filemark", .command = SIX(WRITE_FILEMARKS, 0, 1), .after = TWO(1, 2)},
-    {.what = "SPACE back over it", .command = SIX(SPACE, FILEMARKS, -1), .after = TWO(1, 1)},
+    {.what = "SPACE back over it", .command = SIX(SPACE, FILEMARKS, -1), .after = TWO(1, 1), .crossed = 1},
     {.what = "ERASE of it", .command = SIX(ERASE, 0, 0), .after = TWO(1, 1)},
     {.what = "end of data", .command = SIX(READ, 0, 4), .after = TWO(1, 1),
      .told = RESIDUE(TOLD_END_OF_DATA, 4)},
@@ -103,7 +104,7 @@ static const struct edge life[] = {
     {.what = "READ of what was written", .command = SIX(READ, 0, 2), .after = TWO(1, 1), .data = BYTES(8, 9)},
     {.what = "LOCATE (16) to E's second file", .command = LOCATE_16(CP | TO_FILE, 1, 0), .after = TWO(0, 2)},
     {.what = "SPACE (16) back to its beginning", .command = SPACE_16(FILEMARKS, -POWER_32), .after = TWO(0, 0),
-     .told = NO_RESIDUE(TOLD_BEGINNING)},
+     .crossed = 2, .told = NO_RESIDUE(TOLD_BEGINNING)},
     {.what = "whose sense has no residue", .command = SIX(REQUEST_SENSE, 0, SENSE_BYTES), .after = TWO(0, 0),
      .data = BYTES(0x70, 0, 0x40, 0, 0, 0, 0, 0x0a, 0, 0, 0, 0, 0, 4, 0, 0, 0, 0)},
     {.what = "READ of E's block again", .command = SIX(READ, 0, 3), .after = TWO(0, 1), .data = BYTES(1, 2, 3)},
@@ -142,10 +143,10 @@ static const struct edge life_at_the_end[] = {
      .data = BYTES(0x70, 0, 8, 0, 0, 0, 0, 0x0a, 0, 0, 0, 0, 0, 5, 0, 0, 0, 0)},
     {.what = "back past the end in the zone", .command = LOCATE(CP, 12, 1), .after = TWO(1, 11),
      .told = PAST_END_IN_ZONE},
-    {.what = "SPACE back over a filemark", .command = SIX(SPACE, FILEMARKS, -1), .after = TWO(1, 10)},
-    {.what = "SPACE over two", .command = SIX(SPACE, FILEMARKS, 2), .after = TWO(1, 11),
+    {.what = "SPACE back over a filemark", .command = SIX(SPACE, FILEMARKS, -1), .after = TWO(1, 10), .crossed = 1},
+    {.what = "SPACE over two", .command = SIX(SPACE, FILEMARKS, 2), .after = TWO(1, 11), .crossed = 1,
      .told = RESIDUE(TOLD_END_IN_ZONE, 1)},
-    {.what = "SPACE (16) back over a filemark", .command = SPACE_16(FILEMARKS, -1), .after = TWO(1, 10)},
+    {.what = "SPACE (16) back over a filemark", .command = SPACE_16(FILEMARKS, -1), .after = TWO(1, 10), .crossed = 1},
     {.what = "ERASE of it", .command = SIX(ERASE, 0, 0), .after = TWO(1, 10)},
     {.what = "READ where it was", .command = SIX(READ, 0, 4), .after = TWO(1, 10),
      .told = RESIDUE(TOLD_END_OF_DATA, 4)},
@@ -156,7 +157,7 @@ static const struct edge life_at_the_end[] = {
      .told = RESIDUE(TOLD_END_IN_ZONE, 1)},
     {.what = "REWIND", .command = SIX(REWIND, 0, 0), .after = TWO(1, 0)},
     {.what = "SPACE (16) of filemarks from 0", .command = SPACE_16(FILEMARKS, POWER_32), .after = TWO(1, 11),
-     .told = NO_RESIDUE(TOLD_END_IN_ZONE)},
+     .crossed = 11, .told = NO_RESIDUE(TOLD_END_IN_ZONE)},
     {.what = "its sense has no residue", .command = SIX(REQUEST_SENSE, 0, SENSE_BYTES), .after = TWO(1, 11),
      .data = BYTES(0x70, 0, 0x48, 0, 0, 0, 0, 0x0a, 0, 0, 0, 0, 0, 5, 0, 0, 0, 0)},
     {.what = "LOCATE (16) to 0", .command = LOCATE_16(TO_OBJECT, 0, 0), .after = TWO(1, 0)},
@@ -175,12 +176,13 @@ static const struct edge life_at_the_end[] = {
 static void live(uint8_t *record, uint8_t *p0, uint8_t *p1, const struct edge *step)
 {
     uint8_t want[RECORD_BYTES], data[36] = {0}, *received = lend(data, sizeof data);
-    uint64_t want_answer = (uint64_t)(step->told.first != 0) << ANSWER_STATUS | (step->carried + step->data.length);
+    uint32_t from = get32(record + STORMTOGGLE_RECORD_POSITION);
     uint64_t answer = stormtoggle_command(record, RECORD_BYTES, step->command.at, step->command.length, p0, E_BYTES, p1,
                                           SHORTEST, step->list.at, step->list.length, received, sizeof data);
+    hold_crossed(step, from, step->what);
     lay_told(want, &step->after, &step->told);
     memcpy(data, step->data.at, step->data.length);
-    expect_equal(answer, want_answer, "answer in a life, %s", step->what);
+    expect_equal(answer, answer_wanted(step), "answer in a life, %s", step->what);
     expect_bytes(record, want, RECORD_BYTES, "record in a life, %s", step->what);
     expect_bytes(received, data, sizeof data, "received in a life, %s", step->what);
     take_back(received, sizeof data);
@@ -207,9 +209,9 @@ static void live_through(const struct edge *steps, size_t count, const uint8_t *
     take_back(record, RECORD_BYTES);
 }
 
-/* In the end the first life leaves one block, and the filemark's entry behind it; the other one a block of one byte,
- * and behind it the second byte of the block that it is written over. */
-static void two_lives(void)
+/* In the end the first life leaves one block, and the filemark's entry behind it; the second one a block of one byte,
+ * and behind it the second byte of the block that it is written over; the third one the blank as it was. */
+static void three_lives(void)
 {
     static const uint8_t written[] = {8, 9}, written_over[] = {7};
     uint8_t want[SHORTEST] = {0};
@@ -220,6 +222,9 @@ static void two_lives(void)
     put_objects(want, sizeof want, 0, "b2", written);
     put_objects(want, sizeof want, 0, "b1 f10", written_over);
     live_through(life_at_the_end, COUNT(life_at_the_end), want);
+    memset(want, 0, sizeof want);
+    lay_trailer(want, sizeof want, 0, 0);
+    live_through(life_of_spaces, COUNT(life_of_spaces), want);
 }
 
 /* The cases' E is the document's, and exactly the cartridges before UNSOUND are sound. */
@@ -246,7 +251,8 @@ int main(void)
     data_and_movement();
     long_movement();
     ends_of_data();
-    two_lives();
+    objects_crossed();
+    three_lives();
     printf("%lu cases\n", cases_run);
     return tally();
 }

@@ -193,7 +193,7 @@ static const struct edge long_blocks[] = {
     {"extra bytes behind LOCATE (16)", E, {BYTES_16 + 2, {LOCATE_16, [11] = 1, [16] = 255, 255}}, AT(2),
      .after = AT(1)},
     {"extra bytes behind SPACE (16)", E, {BYTES_16 + 2, {SPACE_16, FILEMARKS, [11] = 1, [16] = 255, 255}}, AT(0),
-     .after = AT(2)},
+     .after = AT(2), .crossed = 2},
     {"code 90h is not served", E, {BYTES_16, {0x90}}, AT(1), .after = AT(1), .told = PLAIN(TOLD_NOT_SERVED)},
     {"code 93h is not served", E, {BYTES_16, {0x93}}, AT(1), .after = AT(1), .told = PLAIN(TOLD_NOT_SERVED)},
     {"LOCATE (16) from above N", E, LOCATE_16(TO_OBJECT, 0, 0), AT(3), .refusal = BY_DRIVE},

@@ -26,8 +26,9 @@ enum {
     BY_LENGTH = STORMTOGGLE_BY_LENGTH, BY_MOST = BY_LENGTH
 };
 
-/* The answer packed, by the public header's words: at which bit refusal and status lie, and at which a view's start. */
-enum { ANSWER_REFUSAL = 32, ANSWER_STATUS = 35, VIEW_START = 32 };
+/* The answer packed, by the public header's words: at which bit refusal, status and objects crossed lie, and at which a
+ * view's start. */
+enum { ANSWER_REFUSAL = 32, ANSWER_STATUS = 35, ANSWER_CROSSED = 36, VIEW_START = 32 };
 
 /* ---- the drive record */
 

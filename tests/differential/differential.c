@@ -1,7 +1,7 @@
 /* differential.c SEED CALLS [largest]: the library held to the model of documents 01 and 02, call by call, on seeded
  * random work. With the largest, bytes carried and zeroed come near 2^30, which takes 3 GiB of memory. */
 #define _DEFAULT_SOURCE
-#include "near_end.h"
+#include "left_over.h"
 #include "report.h"
 
 /* ---- sequences from a blank cartridge */
@@ -287,8 +287,10 @@ int main(int arguments, char **argument)
         run_noise();
         if (round % 8 == 0)
             run_near_end();
-        if (round % 16 == 0)
+        if (round % 16 == 0) {
+            run_left_over();
             run_many_objects();
+        }
         if (round % 64 == 0)
             run_wide();
         /* Once, and not first: a slip that any cartridge shows is found without it. */

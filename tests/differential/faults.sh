@@ -2,7 +2,7 @@
 # faults.sh: shows that tests/differential/differential.c can fail: the run of check finds each slip that is seeded in
 # the model, or, where a store may not go, behind the library; those marked so, the run with the largest work. The slips
 # of the directory's check are shown to tests/differential/damage.c too, and some to it alone; those of the movement by
-# sixteen bytes come next, and those of end of data last.
+# sixteen bytes come next, then those of end of data, and those of the objects crossed last.
 # LIBRARY names another archive than the one that is built here from the sources.
 set -u
 cd "$(dirname "$0")/../.." || exit 2
@@ -116,6 +116,57 @@ slips+=(
 )
 echo "on end of data"
 for fault in $(seq "$ends" $((${#slips[@]} - 1))); do
+    run_with_slip "$fault" "${slips[fault]}" tests/differential/differential.c 1 500000 || failed=1
+done
+
+# Slips of the number of objects that SPACE crossed, each with the wrong answer that it gives. SPACE is of either length
+# where nothing else is said, and the number of the SPACE before is told by the call right after it alone.
+crossed=${#slips[@]}
+slips+=(
+    "those counted told in place of those crossed, 2 for two blocks and the filemark that ends them"
+    "the filemark that ends a SPACE over blocks not crossed, 0 where it is the only object met"
+    "blocks not crossed on the way to a filemark, 1 behind any number of them"
+    "filemarks left out, 2 for two blocks and a filemark to end of data too"
+    "0 to end of data, code 3, from wherever"
+    "0 by a count of 0, to end of data too, where the count is ignored"
+    "1 by a count of 0 where an object follows"
+    "0 by SPACE (16), told by SPACE of six bytes alone"
+    "0 by SPACE of six bytes, told by SPACE (16) alone"
+    "told only where GOOD, 0 with CHECK CONDITION"
+    "told only with CHECK CONDITION, 0 where GOOD"
+    "0 where it goes back, told where it goes on"
+    "less than 0 where it goes back, FFFFFFFh for 1"
+    "0 at end of data and at the beginning, told at a filemark and where GOOD"
+    "the residue told in place of those crossed, 0 where GOOD"
+    "the count told in place of those crossed, 5 where a filemark ends it as the third"
+    "the new position told in place of the distance, N to end of data from wherever"
+    "all N of them told as N - 1"
+    "0 in partition 1, told in partition 0 alone"
+    "those crossed cut to 16 bits, 0 for 65,536"
+    "those crossed cut to 20 bits, 0 for 1,048,576"
+    "those crossed cut to 24 bits, 0 for 16,777,216"
+    "a bit too low, CHECK CONDITION for 1 and GOOD"
+    "a bit too high, 2 for 1"
+    "LOCATE tells its distance, and not 0"
+    "LOCATE (16) tells its distance, and not 0"
+    "READ tells how many objects it passed, and not 0"
+    "WRITE tells how many blocks it put, and not 0"
+    "WRITE FILEMARKS tells how many it put, and not 0"
+    "REWIND tells its distance, and not 0"
+    "LOAD UNLOAD tells how far it went back, and not 0"
+    "an attention told with the number of the SPACE before"
+    "5/24/00 of a SPACE told with the number of the SPACE before"
+    "2/3A/00 of a SPACE told with the number of the SPACE before"
+    "a SPACE refused by 1 with the number of the SPACE before"
+    "a SPACE refused by 4 with the number of the SPACE before"
+    "a SPACE refused by 4 with the number that it would have had"
+    "another command answers with the number of the SPACE before"
+    "a house service answers with the number of the SPACE before"
+    "a SPACE that crosses nothing answers with the number of the SPACE before"
+    "0 always, as before there was a fourth number"
+)
+echo "on how far a SPACE went"
+for fault in $(seq "$crossed" $((${#slips[@]} - 1))); do
     run_with_slip "$fault" "${slips[fault]}" tests/differential/differential.c 1 500000 || failed=1
 done
 exit "$failed"

@@ -181,9 +181,21 @@ static inline uint64_t refused(unsigned number)
     return (uint64_t)number << ANSWER_REFUSAL;
 }
 
-static inline uint64_t answered(int check_condition, uint64_t carried)
+/* 02 adds the fourth number, "how many objects it crossed", which is for SPACE alone. */
+static inline uint64_t answered(int check_condition, uint64_t carried, uint64_t crossed)
 {
-    return carried | (uint64_t)(check_condition != 0) << ANSWER_STATUS;
+    unsigned at = FAULT == 98 ? ANSWER_CROSSED - 1 : FAULT == 99 ? ANSWER_CROSSED + 1 : ANSWER_CROSSED;
+    return carried | (uint64_t)(check_condition != 0) << ANSWER_STATUS | crossed << at;
+}
+
+/* What the call before has told there, which is nothing to this one: for slips alone. */
+static uint64_t crossed_before;
+
+static inline uint64_t left_over(int fault)
+{
+    uint64_t crossed = crossed_before;
+    crossed_before = 0;
+    return FAULT == fault ? crossed : 0;
 }
 
 /* ---- the record */
@@ -218,7 +230,7 @@ static inline uint64_t model_fresh(uint8_t *record, size_t length)
     memset(record, 0, RECORD_BYTES);
     record[STORMTOGGLE_RECORD_ATTENTION] = ATTENTION_FRESH;
     memcpy(record + STORMTOGGLE_RECORD_SENSE, nothing_told, SENSE_BYTES);
-    return answered(0, 0);
+    return answered(0, 0, left_over(114));
 }
 
 static inline uint64_t model_blank(uint8_t *image, size_t length)
@@ -228,7 +240,7 @@ static inline uint64_t model_blank(uint8_t *image, size_t length)
     lay_count(image, length, 0);
     put32(image + length - TRAILER_FLAGS, 0);
     put32(image + length - TRAILER_L, (uint32_t)length);
-    return answered(0, 0);
+    return answered(0, 0, left_over(114));
 }
 
 static inline uint64_t model_protect(uint8_t *image, size_t length, uint64_t on)
@@ -242,7 +254,7 @@ static inline uint64_t model_protect(uint8_t *image, size_t length, uint64_t on)
     /* Flag bit 0 is the lowest of a big-endian word, in its last byte. */
     flag = image + length - TRAILER_FLAGS + 3;
     *flag = (uint8_t)((*flag & ~FLAG_PROTECTED) | (on != 0 ? FLAG_PROTECTED : 0));
-    return answered(0, 0);
+    return answered(0, 0, left_over(114));
 }
 
 static inline uint64_t model_mount(uint8_t *record, size_t record_length, const uint8_t *p0, size_t p0_length,
@@ -263,7 +275,7 @@ static inline uint64_t model_mount(uint8_t *record, size_t record_length, const 
     record[STORMTOGGLE_RECORD_PARTITIONS] = second_is_absent ? 1 : 2;
     record[STORMTOGGLE_RECORD_ATTENTION] = ATTENTION_MOUNTED;
     memcpy(record + STORMTOGGLE_RECORD_SENSE, nothing_told, SENSE_BYTES);
-    return answered(0, 0);
+    return answered(0, 0, left_over(114));
 }
 
 static inline uint64_t model_view(const uint8_t *p0, size_t p0_length, const uint8_t *p1, size_t p1_length,

@@ -3,7 +3,7 @@
 #ifndef MODEL_COMMANDS_H
 #define MODEL_COMMANDS_H
 
-#include "model_moves.h"
+#include "model_crossed.h"
 
 /* ---- READ */
 
@@ -255,7 +255,8 @@ static inline void take_fields(struct session *s, const uint8_t *record)
     s->block_length = get32(record + STORMTOGGLE_RECORD_BLOCK_LENGTH);
     memcpy(s->sense, nothing_told, SENSE_BYTES);
     s->check_condition = 0;
-    s->carried = 0;
+    s->carried = s->crossed = s->counted = s->filemarks_crossed = 0;
+    s->asked = s->residue = 0;
     s->began_in = s->current;
     s->began_at = s->position;
 }
@@ -278,28 +279,31 @@ static inline uint64_t model_command(uint8_t *record, size_t record_length, cons
     static struct session session;
     struct session *s = &session;
     const uint64_t lengths[2] = {p0_length, p1_length};
+    s->crossed_then = crossed_before;
+    crossed_before = 0;
     block_length = (size_t)cut(cut(cut(block_length, 18, 8), 19, 16), 30, 32);
+    s->block = block_length == 0 ? NULL : block;
     if (block_length == 0 || block_length < block_bytes(block[0]))
-        return refused(BY_COMMAND);
+        return refused_command(s, BY_COMMAND);
     if (!record_is_well_formed(record, record_length))
-        return refused(BY_DRIVE);
-    s->block = block;
+        return refused_command(s, BY_DRIVE);
     s->image[0] = p0;
     s->image[1] = p1;
     s->sent = sent;
     s->received = received;
     take_fields(s, record);
     if (!cartridge_fits(s, lengths))
-        return refused(BY_DRIVE);
+        return refused_after_all(s, lengths);
     if (!ends_before_the_act(s)) {
         if (bytes_to_take(s) > sent_length)
-            return refused(BY_SENT);
+            return refused_command(s, BY_SENT);
         if (bytes_to_hand_over(s) > received_length)
-            return refused(BY_RECEIVED);
+            return refused_command(s, BY_RECEIVED);
         act(s, record + STORMTOGGLE_RECORD_SENSE);
     }
     lay_fields(s, record);
-    return answered(s->check_condition, cut(cut(cut(s->carried, 20, 24), 21, 28), 31, 29));
+    crossed_before = s->crossed;
+    return answered(s->check_condition, cut(cut(cut(s->carried, 20, 24), 21, 28), 31, 29), told_as_crossed(s));
 }
 
 #endif

@@ -6,20 +6,31 @@
 
 /* ---- over objects */
 
+/* Goes over the next object, on or back. All that SPACE goes over is counted here, be it a block or a filemark, and
+ * whether its count has a use for it or not. */
+static inline const struct object *cross(struct session *s, int step)
+{
+    const struct object *object = &s->tape[s->current].objects[step > 0 ? s->position : s->position - 1];
+    s->position = step > 0 ? s->position + 1 : s->position - 1;
+    s->crossed++;
+    s->filemarks_crossed += (uint64_t)object->is_filemark;
+    return object;
+}
+
 /* Of SPACE and SPACE (16), which have the code in the same place. */
-static inline void space(struct session *s, int64_t count)
+static inline void walk(struct session *s, int64_t count)
 {
     const struct tape *tape = &s->tape[s->current];
     int64_t moved = 0;
     int code = s->block[1];
     if (code == TO_END_OF_DATA) {
-        s->position = tape->count;
+        while (s->position < tape->count)
+            cross(s, 1);
         slip_at_end(s, 72);
         return;
     }
     while (moved != count) {
         int step = count > 0 ? 1 : -1;
-        const struct object *crossed;
         if (step > 0 && s->position == tape->count) {
             tell_end_of_data(s, count - moved);
             return;
@@ -28,15 +39,30 @@ static inline void space(struct session *s, int64_t count)
             tell(s, TOLD_BEGINNING, count - moved);
             return;
         }
-        crossed = &tape->objects[step > 0 ? s->position : s->position - 1];
-        s->position = step > 0 ? s->position + 1 : s->position - 1;
-        if (crossed->is_filemark == (code == FILEMARKS)) {
+        if (cross(s, step)->is_filemark == (code == FILEMARKS)) {
             moved += step;
+            s->counted++;
         } else if (code == BLOCKS) {
             tell(s, TOLD_FILEMARK, count - moved);
             return;
         }
     }
+}
+
+static inline uint64_t distance_gone(const struct session *s)
+{
+    return s->position > s->began_at ? s->position - s->began_at : s->began_at - s->position;
+}
+
+/* 02 says of the objects crossed what it "equals", what it "is never above" and where it "is 0": three things that
+ * follow from the walk, so a model of which one does not hold is wrong, and ends the run. */
+static inline void space(struct session *s, int64_t count)
+{
+    int is_none = count == 0 && s->block[1] != TO_END_OF_DATA;
+    s->asked = count;
+    walk(s, count);
+    if (s->crossed != distance_gone(s) || s->crossed > s->tape[s->current].count || (is_none && s->crossed != 0))
+        abort();
 }
 
 /* ---- to an object */

@@ -17,8 +17,14 @@ struct session {
     uint8_t sense[SENSE_BYTES]; /* what is kept after the command */
     int check_condition;
     uint64_t carried;
-    uint8_t began_in; /* the partition and the position at which the command began, for slips alone */
-    uint64_t began_at;
+    uint64_t crossed;  /* by SPACE, object by object */
+    uint64_t began_at; /* the position at which the command began */
+    /* For slips alone: the partition at which it began; of the objects crossed how many SPACE counted, and how many are
+     * filemarks; what it was asked for, and the residue told; what the call before has crossed. */
+    uint8_t began_in;
+    uint64_t counted, filemarks_crossed;
+    int64_t asked, residue;
+    uint64_t crossed_then;
 };
 
 /* ---- the tables */
@@ -132,6 +138,7 @@ static inline void tell(struct session *s, enum told_number told, int64_t residu
     s->sense[STORMTOGGLE_SENSE_ASC] = TOLD_ASC(told);
     s->sense[STORMTOGGLE_SENSE_ASCQ] = TOLD_ASCQ(told);
     s->check_condition = 1;
+    s->residue = residue;
 }
 
 static inline void tell_attention(struct session *s)

@@ -2,7 +2,7 @@
 #ifndef REACHED_H
 #define REACHED_H
 
-#include "ends.h"
+#include "crossed.h"
 
 enum service { FRESH, BLANK, MOUNT, PROTECT, VIEW, A_COMMAND, SERVICES };
 static const char *const service_names[] = {"fresh", "blank", "mount", "protect", "view", "command"};
@@ -25,7 +25,7 @@ static int sealed[SLICES];
  * one of more than 16 bits. */
 enum width {
     WIDE_N, WIDE_POSITION, WIDE_FILEMARKS, WIDE_FIXED, WIDE_BLOCK, WIDE_CARRIED, WIDE_ZEROED, WIDE_ROOM, WIDE_START,
-    WIDE_OBJECT, WIDE_FILE, WIDE_SPACE, WIDE_END_ROOM, WIDTHS
+    WIDE_OBJECT, WIDE_FILE, WIDE_SPACE, WIDE_END_ROOM, WIDE_CROSSED, WIDE_CROSSED_16, WIDTHS
 };
 enum { WIDEST = 65 };
 
@@ -35,7 +35,7 @@ static struct {
     unsigned long sense[16][256][256];                                 /* by key, ASC and ASCQ */
     unsigned long widths[WIDTHS][WIDEST];
     unsigned long views_found, null_slices, puts_nothing, receives_nothing, refused_records, beside;
-    unsigned long wide_products, wide_done, largest_blocks, codes_run;
+    unsigned long wide_products, wide_done, largest_blocks, codes_run, after_space[SERVICES];
     int with_largest;
 } reached;
 
@@ -112,14 +112,17 @@ static inline void count_sealed(const uint8_t *block, unsigned refusal)
 static inline void count_command(unsigned refusal, uint64_t answer)
 {
     const uint8_t *block = bytes_of(COMMAND, MODEL), *record = bytes_of(RECORD, MODEL);
-    uint32_t told;
+    uint32_t told = refusal == 0 ? told_in(record) : TOLD_GOOD;
+    uint64_t crossed = count_crossing(block, refusal, told, record_before, record);
+    crossings.just_before = crossed;
     count_sealed(block, refusal);
     if (refusal != 0) {
         reached.refused[block[0]]++;
         note_move(ONE_BYTE_SHORT, is_long_move(block[0]) && twins[COMMAND].length == BYTES_16 - 1);
         return;
     }
-    told = told_in(record);
+    if (crossed > 0)
+        note_width(block[0] == SPACE ? WIDE_CROSSED : WIDE_CROSSED_16, crossed);
     if (is_long_move(block[0]))
         count_move(block, told, record_before, record);
     note_width(WIDE_BLOCK, twins[COMMAND].length);
@@ -140,6 +143,7 @@ static inline void count_reached(uint64_t answer)
     unsigned refusal = latest.service == VIEW ? 0 : STORMTOGGLE_REFUSAL(answer);
     reached.services[latest.service]++;
     reached.refusals[latest.service][refusal]++;
+    reached.after_space[latest.service] += crossings.just_before > 0 && refusal == 0;
     if (latest.service == VIEW && answer != 0) {
         reached.views_found++;
         note_width(WIDE_START, STORMTOGGLE_VIEW_START(answer));
@@ -148,6 +152,8 @@ static inline void count_reached(uint64_t answer)
         reached.null_slices += latest.empty_is_null && twins[i].length == 0;
     if (latest.service == A_COMMAND && twins[COMMAND].length > 0 && twins[RECORD].length > 0)
         count_command(refusal, answer);
+    else
+        crossings.just_before = 0;
 }
 
 #endif

@@ -91,6 +91,8 @@ static inline void report_widths(void)
         [WIDE_FILE] = {"a file of LOCATE (16)", {16, 17, 20, 24}, 0},
         [WIDE_SPACE] = {"a count of SPACE (16)", {16, 17, 20, 24}, 0},
         [WIDE_END_ROOM] = {"room x 16 at end of data", {16, 24, 32}, 0},
+        [WIDE_CROSSED] = {"objects crossed by SPACE", {16, 17, 20, 24}, 0},
+        [WIDE_CROSSED_16] = {"objects crossed by SPACE (16)", {16, 17, 20, 24}, 0},
     };
     for (int i = 0; i < WIDTHS; i++) {
         printf("%s above", widths[i].name);
@@ -154,6 +156,28 @@ static inline void report_ends(void)
            shown(ends.without_residue[BLOCKS]), shown(ends.without_residue[FILEMARKS]));
 }
 
+/* All kinds by SPACE, and by SPACE (16). A refused house service is not counted behind one. */
+static inline void report_crossings(void)
+{
+    unsigned long commands = 0;
+    for (int kind = 0; kind < CROSSINGS; kind++)
+        printf("crossed: %-47s SPACE %7lu, SPACE (16) %7lu\n", crossing_names[kind], shown(crossings.kinds[0][kind]),
+               shown(crossings.kinds[1][kind]));
+    for (int length = 0; length < 2; length++) {
+        printf("right after a SPACE that crossed some, %s", length == 0 ? "SPACE" : "SPACE (16)");
+        for (int i = 0; i < AFTERMATHS; i++)
+            printf("%s %s %lu", i == 0 ? "" : ",", aftermath_names[i], shown(crossings.after[length][i]));
+        printf("\n");
+    }
+    for (size_t i = 0; i < COUNT(all_served); i++)
+        if (!is_space(all_served[i].code))
+            commands += shown(crossings.command_after[all_served[i].code]);
+    printf("right after one, another command %lu, refused %lu", commands, shown(crossings.refused_after));
+    for (int i = 0; i < A_COMMAND; i++)
+        printf(", %s %lu", service_names[i], shown(reached.after_space[i]));
+    printf("\n");
+}
+
 static inline void report_read_only(void)
 {
     printf("read-only: a WRITE that puts nothing %lu, the partition beside %lu, a buffer that receives nothing %lu, "
@@ -171,6 +195,7 @@ static inline int report(void)
     report_widths();
     report_moves();
     report_ends();
+    report_crossings();
     report_read_only();
     printf("empty slices as NULL %lu, 2^32 bytes and more asked %lu, and lent %lu, 65,536 put %lu\n",
            shown(reached.null_slices), shown(reached.wide_products), shown(reached.wide_done),

@@ -259,7 +259,7 @@ static inline void slip_a_store(uint64_t answer)
         return;
     if (FAULT == 25 && !refused && loaded && block[0] == SPACE)
         store_again(current);
-    if (FAULT == 26 && !refused && loaded && block[0] == WRITE && answer == answered(0, 0))
+    if (FAULT == 26 && !refused && loaded && block[0] == WRITE && answer == answered(0, 0, 0))
         store_again(current);
     if (FAULT == 27 && !refused && loaded && block[0] == WRITE)
         store_again((enum slice)(P0 + P1 - current));

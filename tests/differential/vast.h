@@ -198,6 +198,7 @@ static inline void run_filemarks(enum slice partition, uint64_t count, int thoro
     send(SPACE_16, FILEMARKS, -count);
     send(LOCATE_16, CP | TO_OBJECT, count);
     send(SPACE_16, FILEMARKS, -count - (UINT64_C(1) << 31) - draw(2));
+    send(SPACE, TO_END_OF_DATA, 0);
     if (thorough) {
         send(LOCATE_16, CP | TO_FILE, count + 1);
         send(LOCATE_16, CP | TO_END, 0);

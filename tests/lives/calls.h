@@ -37,12 +37,26 @@ static inline void count_answer(unsigned refusal)
     }
 }
 
+/* "It equals the distance between old and new position", and "every other call, refusals included, answers 0 there". */
+static inline void hold_crossed(unsigned refusal)
+{
+    int is_space = latest.kind == SPACE || latest.kind == SPACE_16, goes = is_space && refusal == 0;
+    uint32_t from = goes ? latest.before.position : 0, to = goes ? drive_of(latest.by->record).position : 0;
+    uint32_t distance = from < to ? to - from : from - to, crossed = STORMTOGGLE_CROSSED(latest.answer);
+    happens(CROSSED_SOME, distance > 0);
+    happens(CROSSED_TO_FILEMARK,
+            distance > 0 && told_by(latest.by->record + STORMTOGGLE_RECORD_SENSE) == TOLD_FILEMARK);
+    if (crossed != distance)
+        mismatch("objects crossed expected %u, came %u", (unsigned)distance, (unsigned)crossed);
+}
+
 /* Alone with the cartridge since its mount, a record is never refused by 4. */
 static inline void end_call(uint64_t answer)
 {
     unsigned refusal = STORMTOGGLE_REFUSAL(answer);
     latest.answer = answer;
     count_answer(refusal);
+    hold_crossed(refusal);
     if (latest.by == NULL)
         return;
     latest.by->was_refused = refusal == BY_DRIVE;

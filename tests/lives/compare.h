@@ -115,7 +115,7 @@ static inline int ends_in_zone(const struct tape *tape)
 static inline enum meeting met_by(uint64_t answer, const uint8_t *sense, int hides_length)
 {
     uint32_t carried = STORMTOGGLE_CARRIED(answer), information = get32(sense + STORMTOGGLE_SENSE_INFORMATION);
-    if (STORMTOGGLE_REFUSAL(answer) != 0)
+    if (STORMTOGGLE_REFUSAL(answer) != 0 || STORMTOGGLE_CROSSED(answer) != 0)
         return SOMETHING_ELSE;
     if (STORMTOGGLE_STATUS(answer) == STORMTOGGLE_GOOD)
         return carried > 0 && (carried == LARGEST_BLOCK || hides_length) ? A_BLOCK : SOMETHING_ELSE;
@@ -255,6 +255,37 @@ static inline int reads_meet_file(uint8_t *record, const struct tape *tape)
     return reads_meet_from(record, tape, start_of_file(tape, file));
 }
 
+/* ---- by what was crossed */
+
+static inline struct bytes some_space(uint8_t code, int64_t count)
+{
+    if (one_in(2))
+        return (struct bytes)SPACE_16(code, count);
+    return (struct bytes)SIX(SPACE, code, count);
+}
+
+/* From the number to which the objects crossed add up, on and back from the beginning: a sender that sees the answers
+ * alone knows by them where it is. */
+static inline int reads_meet_by_crossing(uint8_t *record, const struct tape *tape)
+{
+    int64_t number = 0, end = end_of(&tape->history);
+    go_to_beginning(record, tape);
+    for (uint32_t spaces = 1 + draw(5); spaces > 0; spaces--) {
+        uint8_t code = (uint8_t)(one_in(6) ? TO_END_OF_DATA : draw(2));
+        int64_t count = (int64_t)draw(12) - 5;
+        uint64_t answer = command_whole(record, some_space(code, count), NULL, 0);
+        int back = code != TO_END_OF_DATA && count < 0;
+        happens(back ? CROSSED_BACK : CROSSED_ON, STORMTOGGLE_CROSSED(answer) > 0);
+        number += back ? -(int64_t)STORMTOGGLE_CROSSED(answer) : (int64_t)STORMTOGGLE_CROSSED(answer);
+        if (number < 0 || number > end) {
+            mismatch("SPACEs on partition %d add up to %d of %d", number_of(tape), (int)number, (int)end);
+            return 0;
+        }
+    }
+    happens(CROSSINGS_ADDED, 1);
+    return reads_meet_from(record, tape, (uint32_t)number);
+}
+
 /* ---- the records that read */
 
 /* A record of the comparison's own, with the whole cartridge mounted and no attention waiting. */
@@ -315,6 +346,8 @@ static inline void compare(void)
         if (!views_agree(tape) || !reads_meet_all(reading_record, tape))
             return;
         if (one_in(8) && !reads_meet_file(reading_record, tape))
+            return;
+        if (one_in(8) && !reads_meet_by_crossing(reading_record, tape))
             return;
     }
     if (one_in(2))

@@ -13,7 +13,8 @@ enum happening {
     ABOVE_N, UNDER_ODD_RECORDS, CHANGED_BY_ODD_RECORDS,
     LONE_FIRST, LONE_SECOND, LONE_BESIDE_ANOTHER, LONE_CHANGED, ANOTHER_CHANGED,
     VIEWS, READS, BLOCKS_MET, FILEMARKS_MET, ENDS_MET, ENDS_MET_IN_ZONE, FILES_LOCATED, FILES_SPACED, PAST_FILES_READ,
-    PAST_FILES_IN_ZONE, OWN_READINGS, OWN_ABOVE_N, NEVER_BY_4, LISTS_READ_WHOLE, HAPPENINGS
+    PAST_FILES_IN_ZONE, OWN_READINGS, OWN_ABOVE_N, NEVER_BY_4, LISTS_READ_WHOLE,
+    CROSSED_SOME, CROSSED_TO_FILEMARK, CROSSINGS_ADDED, CROSSED_ON, CROSSED_BACK, HAPPENINGS
 };
 
 static const char *const happening_names[HAPPENINGS] = {
@@ -62,6 +63,11 @@ static const char *const happening_names[HAPPENINGS] = {
     [OWN_ABOVE_N] = "such readings refused above N",
     [NEVER_BY_4] = "calls that 4 may never refuse",
     [LISTS_READ_WHOLE] = "lists read whole",
+    [CROSSED_SOME] = "SPACEs that crossed objects",
+    [CROSSED_TO_FILEMARK] = "such over blocks, to a filemark",
+    [CROSSINGS_ADDED] = "readings where SPACEs add up to",
+    [CROSSED_ON] = "SPACEs on, on the way there",
+    [CROSSED_BACK] = "SPACEs back, on the way there",
 };
 
 /* The house services stand behind the 256 operation codes. */

@@ -114,6 +114,21 @@ static inline void spoil(const struct moment *was, uint64_t answer, uint8_t *rec
     }
 }
 
+/* What a command tells as crossed, which is right until here. */
+static inline uint64_t spoiled_crossed(const struct moment *was, uint64_t answer, const uint8_t *record,
+                                       const uint8_t *command)
+{
+    uint32_t now = get32(record + STORMTOGGLE_RECORD_POSITION), then = was->drive.position;
+    int is_space = command[0] == SPACE || command[0] == SPACE_16;
+    int at_filemark = STORMTOGGLE_STATUS(answer) != STORMTOGGLE_GOOD &&
+                      told_by(record + STORMTOGGLE_RECORD_SENSE) == TOLD_FILEMARK;
+    if (FAULT == 15 && is_space && at_filemark && STORMTOGGLE_CROSSED(answer) > 0)
+        return answer - (UINT64_C(1) << ANSWER_CROSSED);
+    if (FAULT == 16 && command[0] == LOCATE_16)
+        return answer + ((uint64_t)(now > then ? now - then : then - now) << ANSWER_CROSSED);
+    return answer;
+}
+
 static inline uint64_t command_service(uint8_t *record, size_t record_len, const uint8_t *command, size_t command_len,
                                        uint8_t *p0, size_t p0_len, uint8_t *p1, size_t p1_len, const uint8_t *sent,
                                        size_t sent_len, uint8_t *received, size_t received_len)
@@ -132,6 +147,7 @@ static inline uint64_t command_service(uint8_t *record, size_t record_len, const
     if (FAULT != 0 && STORMTOGGLE_REFUSAL(answer) == 0 && was.length > 0) {
         int second = record[STORMTOGGLE_RECORD_CURRENT] == 1;
         spoil(&was, answer, record, command, get_field(second ? p1 : p0, second ? p1_len : p0_len, TRAILER_N));
+        answer = spoiled_crossed(&was, answer, record, command);
     }
     return answer;
 }

@@ -1,5 +1,5 @@
 #!/usr/bin/env bash
-# faults.sh: shows that tests/lives/lives.c can fail: the run of check finds each of fourteen faults seeded in the
+# faults.sh: shows that tests/lives/lives.c can fail: the run of check finds each of sixteen faults seeded in the
 # services.
 # LIBRARY names another archive than the one that is built here from the sources.
 set -u
@@ -22,5 +22,7 @@ faults=(
     "SPACE (16) over filemarks stops before the last of them"
     "READ at end of data tells no EOM in the zone"
     "LOCATE (16) and SPACE (16) tell EOM at end of data before the zone too"
+    "SPACE over blocks does not tell the filemark that ends it as crossed"
+    "LOCATE (16) tells how far it went as crossed"
 )
 run_with_slips tests/lives/lives.c 200000 "${faults[@]}"

@@ -21,10 +21,10 @@ use Rattle.commands.specs.Call.{looksAt, seenOf, seen, inserted, laidOut, appli
 use Rattle.edges.specs.Cases.{bare64}
 use Rattle.edges.specs.Traps.{Traps}
 use Rattle.edges.specs.Sixteen.{files}
-use Rattle.edges.specs.Crossed.{marked, spaced, onTheSecond, notSpaced, notBySpace}
+use Rattle.edges.specs.Crossed.{marked, mixed, spaced, onTwo, notSpaced, notBySpace}
 
-pub goes-as-far : Traps spaced × Traps onTheSecond × Traps notSpaced × Traps notBySpace
-unfolding Traps spaced onTheSecond notSpaced notBySpace marked files bare64 E be bytes over signed wrapped fits32 bytesIn M.walk M.before M.ahead M.astern M.space M.residue M.toEndOfData M.toObject M.toFile M.locate
+pub goes-as-far : Traps spaced × Traps onTwo × Traps notSpaced × Traps notBySpace
+unfolding Traps spaced onTwo notSpaced notBySpace marked mixed files bare64 E be bytes over signed wrapped fits32 bytesIn M.walk M.before M.ahead M.astern M.space M.residue M.toEndOfData M.toObject M.toFile M.locate
     runOf marksOf fitting putFrom count flags protected directory size entry topBit low31 endAt follows ordered rightLength sound objectAt upto objects retitle entryOf enter occur occurs
     senseBytes reports told emptySense attentionSense decodeOf encodeOf attentionKnown emptyHanded placed wellFormed wellRecord withSense loadedAnew tooShort inMasks masksHold
     fixedOf siliOf transferOf spaceCodeOf spaceCountOf spaceCount16Of longOf changesPartition objectOf partitionOf destinationOf partition16Of identifierOf loadOf allocationOf first
@@ -32,7 +32,7 @@ unfolding Traps spaced onTheSecond notSpaced notBySpace marked files bare64 E be
     bytesAsked fieldError taken replyLength needed tests statusOf keptOf stopped acted unless step looksAt seenOf seen inserted laidOut applied stepOf called commandCall
 goes-as-far = (
   (refl, (refl, (refl, (refl, (refl, (refl, (refl, (refl, (refl, (refl, (refl, (refl, (refl, (refl, (refl, (refl, (refl, (refl, (refl, (refl, (refl, (refl, (refl, (refl, (refl, (refl, (refl, (refl, (refl, (refl, (refl, (refl, (refl, (refl, (refl, tt))))))))))))))))))))))))))))))))))),
-  (refl, (refl, (refl, (refl, tt)))),
+  (refl, (refl, (refl, (refl, (refl, tt))))),
   (refl, (refl, (refl, (refl, (refl, (refl, (refl, tt))))))),
   (refl, (refl, (refl, (refl, (refl, (refl, (refl, (refl, tt)))))))),
 )
