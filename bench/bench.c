@@ -279,7 +279,8 @@ static void passes(uint32_t n, uint32_t k, const char *what)
     free(image.at);
 }
 
-/* The same command by both, which must leave the same record, bytes and answer; LOCATE asks for an object. */
+/* The same command by both, which must leave the same record, bytes and answer; LOCATE asks for an object, SPACE goes to
+ * end of data. */
 static void small(uint8_t code, size_t length, uint32_t object, const char *what)
 {
     uint8_t before[RECORD_BYTES], left[RECORD_BYTES], data[LONG_BYTES];
@@ -288,6 +289,8 @@ static void small(uint8_t code, size_t length, uint32_t object, const char *what
     asked[0] = code;
     if (code == LOCATE)
         put32(asked + AT_OBJECT, object);
+    if (code == SPACE)
+        asked[1] = TO_END_OF_DATA;
     asked_length = length;
     memcpy(before, record, RECORD_BYTES);
     by = &ours;
@@ -350,6 +353,8 @@ int main(void)
     put_position(1);
     small(READ_POSITION, BYTES_10, 0, "READ POSITION, one object");
     small(LOCATE, BYTES_10, UINT32_MAX, "LOCATE past the end of one object");
+    put_position(0);
+    small(SPACE, BYTES_6, 0, "SPACE to end of data, one object");
     free(image.at);
 
     image = make_image(20000, TILE, 0, (size_t)2 * TILE + 64);

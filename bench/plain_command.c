@@ -80,6 +80,14 @@ static uint64_t go_to(uint8_t *r, const uint8_t *s, size_t length, uint8_t parti
     return checked(r, in_zone(s, length, n) ? TOLD_END_IN_ZONE : TOLD_END_OF_DATA);
 }
 
+/* "Count ignored, to end of data, GOOD"; and how many objects it crossed. */
+static uint64_t go_to_end(uint8_t *r, const uint8_t *s, size_t length)
+{
+    uint32_t n = get32(s + length - TRAILER_N), from = get32(r + STORMTOGGLE_RECORD_POSITION);
+    put32(r + STORMTOGGLE_RECORD_POSITION, n);
+    return good(r, 0) | (uint64_t)(n - from) << ANSWER_CROSSED;
+}
+
 static uint64_t tell_position(uint8_t *r, const uint8_t *s, size_t length, unsigned form, uint8_t *out,
                               size_t out_length)
 {
@@ -145,6 +153,12 @@ uint64_t plain_command(uint8_t *r, size_t r_length, const uint8_t *c, size_t c_l
         if (r[STORMTOGGLE_RECORD_CURRENT])
             return tell_position(r, p1, p1_length, c[1], received, received_length);
         return tell_position(r, p0, p0_length, c[1], received, received_length);
+    case SPACE: /* by no other code here */
+        if (c[1] != TO_END_OF_DATA)
+            abort();
+        if (!r[STORMTOGGLE_RECORD_LOADED])
+            return checked(r, TOLD_NOT_LOADED);
+        return r[STORMTOGGLE_RECORD_CURRENT] ? go_to_end(r, p1, p1_length) : go_to_end(r, p0, p0_length);
     case LOCATE:
         partition = c[1] & CP ? c[AT_PARTITION] : r[STORMTOGGLE_RECORD_CURRENT];
         if (!r[STORMTOGGLE_RECORD_LOADED])

@@ -3,7 +3,7 @@
 #define ROOMS_H
 
 #include "../draw.h"
-#include "model_commands.h"
+#include "model/commands.h"
 #include <sys/mman.h>
 
 enum side { MODEL, LIBRARY };

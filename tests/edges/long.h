@@ -1,4 +1,4 @@
-/* edges_long.h: cases of LOCATE (16) and SPACE (16), as document 02 adds them. */
+/* long.h: cases of LOCATE (16) and SPACE (16), as document 02 adds them. */
 #ifndef EDGES_LONG_H
 #define EDGES_LONG_H
 

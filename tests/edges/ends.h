@@ -1,9 +1,9 @@
-/* edges_ends.h: cases of end of data before the zone and in it, as Q-2 of document 02 changes it: "Set it exactly when
+/* ends.h: cases of end of data before the zone and in it, as Q-2 of document 02 changes it: "Set it exactly when
  * position N of the partition is in the zone." */
 #ifndef EDGES_ENDS_H
 #define EDGES_ENDS_H
 
-#include "edges_long.h"
+#include "long.h"
 
 /* Both sides of the zone, the same call on each. A blank of 64 bytes is left with a room of 3 behind a block of 41
  * bytes, and 3 x 16 = 48 is not below 64 - 16, so N is before the zone; a block of 42 leaves 2, and N is in it. A block

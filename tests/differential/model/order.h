@@ -1,4 +1,4 @@
-/* model_order.h: the order of a command in plain C, from documents 01 and 02 alone: tables, sense, the tests before it
+/* order.h: the order of a command in plain C, from documents 01 and 02 alone: tables, sense, the tests before it
  * acts. */
 #ifndef MODEL_ORDER_H
 #define MODEL_ORDER_H

@@ -1,9 +1,9 @@
-/* model_crossed.h: the fourth number of a command's answer in plain C, from document 02 alone, and the slips that tell
+/* crossed.h: the fourth number of a command's answer in plain C, from document 02 alone, and the slips that tell
  * another one. SPACE tells what it crossed; "every other call, refusals included, answers 0 there". */
 #ifndef MODEL_CROSSED_H
 #define MODEL_CROSSED_H
 
-#include "model_moves.h"
+#include "moves.h"
 
 enum { CROSSED_BITS = 28 };
 

@@ -2,9 +2,9 @@
 #ifndef DRIVE_H
 #define DRIVE_H
 
-#include "blocks.h"
-#include "lend.h"
-#include "record.h"
+#include "../blocks.h"
+#include "../lend.h"
+#include "../record.h"
 #include "stormtoggle.h"
 
 /* ---- the cartridges */

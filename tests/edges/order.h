@@ -1,4 +1,4 @@
-/* edges_order.h: cases of what ends a command before it acts: refusals, attention, fields, readiness, protection. */
+/* order.h: cases of what ends a command before it acts: refusals, attention, fields, readiness, protection. */
 #ifndef EDGES_ORDER_H
 #define EDGES_ORDER_H
 

@@ -1,9 +1,9 @@
-/* model_commands.h: what each command does in plain C, written from documents 01 and 02 alone, and the whole command
+/* commands.h: what each command does in plain C, written from documents 01 and 02 alone, and the whole command
  * call. */
 #ifndef MODEL_COMMANDS_H
 #define MODEL_COMMANDS_H
 
-#include "model_crossed.h"
+#include "crossed.h"
 
 /* ---- READ */
 

@@ -1,10 +1,10 @@
-/* edges_crossed.h: cases of how many objects a SPACE crossed, as Q-10 of document 02 adds it: "filemarks included, as a
+/* crossed.h: cases of how many objects a SPACE crossed, as Q-10 of document 02 adds it: "filemarks included, as a
  * fourth number of the answer". */
 #ifndef EDGES_CROSSED_H
 #define EDGES_CROSSED_H
 
-#include "edges_long.h"
-#include "edges_order.h"
+#include "long.h"
+#include "order.h"
 
 /* The same by SPACE and by SPACE (16). */
 #define BOTH(what, cartridge, code, count, start, ...)                                 \

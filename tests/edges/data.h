@@ -1,4 +1,4 @@
-/* edges_data.h: cases of commands that act: reading, writing, movement, positions, mode data, load and unload. */
+/* data.h: cases of commands that act: reading, writing, movement, positions, mode data, load and unload. */
 #ifndef EDGES_DATA_H
 #define EDGES_DATA_H
 

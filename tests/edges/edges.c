@@ -1,11 +1,11 @@
 /* edges.c: commands at the edges held to documents 01 and 02, called as a C daemon calls them. */
 #define _DEFAULT_SOURCE
 #include "drive.h"
-#include "edges_crossed.h"
-#include "edges_data.h"
-#include "edges_ends.h"
-#include "edges_long.h"
-#include "edges_order.h"
+#include "crossed.h"
+#include "data.h"
+#include "ends.h"
+#include "long.h"
+#include "order.h"
 
 /* ---- the document's own table */
 

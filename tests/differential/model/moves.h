@@ -1,8 +1,8 @@
-/* model_moves.h: SPACE and LOCATE, short and of sixteen bytes, in plain C, from documents 01 and 02 alone. */
+/* moves.h: SPACE and LOCATE, short and of sixteen bytes, in plain C, from documents 01 and 02 alone. */
 #ifndef MODEL_MOVES_H
 #define MODEL_MOVES_H
 
-#include "model_order.h"
+#include "order.h"
 
 /* ---- over objects */
 

@@ -4,7 +4,7 @@
 #ifndef MODEL_H
 #define MODEL_H
 
-#include "../check.h"
+#include "../../check.h"
 
 /* One seeded slip of the model, so that faults.sh can show that the comparison finds it; 0 is none. */
 #ifndef FAULT
