@@ -6,11 +6,10 @@ use Rattle.answers.specs.declared.Answer.{Answer}
 use lib.ListN.{replicate}
 use Rattle.words.specs.Words.{bytes, zeros}
 use Rattle.image.specs.Example.{E}
-use Rattle.commands.specs.Call.{lent, result}
 use Rattle.codes.specs.Six.{six}
 use Rattle.codes.specs.Sixteen.{sixteen}
 use Rattle.edges.specs.Cases.{sense18, nothingKept, trailer, bare64, three, locate}
-use Rattle.edges.specs.Traps.{Trap, loaded, bare, plain, goodAnswer, check, crossedGood, crossedCheck, alone, refuses, turns}
+use Rattle.edges.specs.Traps.{Trap, loaded, bare, plain, goodAnswer, check, crossedGood, crossedCheck, alone, refuses, turns, turnsTwo, twoAt, goes, meets}
 use Rattle.edges.specs.Sixteen.{files}
 
 -- ---- SPACE of six bytes, over blocks and over filemarks; back by n; to end of data
@@ -46,14 +45,7 @@ mixed =
     ++ bytes 4 17 ++ bytes 4 0x8000000E ++ bytes 4 14 ++ bytes 4 9 ++ bytes 4 6 ++ bytes 4 0x80000003 ++ bytes 4 3
     ++ bytes 4 7 ++ bytes 4 0 ++ bytes 4 52 ++ bytes 4 96
 
--- ---- rows: a partition, from where, the command, to where, and how many objects it crossed
-
-abbrev goes : List ℕ → ℕ → List ℕ → ℕ → ℕ → Trap
-goes part from command to n = turns (loaded 0 from 0 nothingKept) command part (crossedGood n) (loaded 0 to 0 nothingKept)
-
--- not all the way: met is what it met, with the residue
-abbrev meets : List ℕ → ℕ → List ℕ → ℕ → ℕ → List ℕ → Trap
-meets part from command to n met = turns (loaded 0 from 0 nothingKept) command part (crossedCheck n) (loaded 0 to 0 met)
+-- ---- what it met, with the residue
 
 abbrev filemark : ℕ → List ℕ
 filemark residue = sense18 0xF0 0x80 residue 0x00 0x01
@@ -115,12 +107,8 @@ spaced =
 
 -- ---- of two partitions, E and the one with seven objects
 
-abbrev both : ℕ → ℕ → List ℕ → List ℕ
-both current position sense = (1 ∷ 2 ∷ current ∷ 0 ∷ []) ++ bytes 4 position ++ bytes 4 0 ++ sense
-
 abbrev ofTwo : List ℕ → ℕ → ℕ → Answer → ℕ → ℕ → List ℕ → Trap
-ofTwo command from position answer to place sense =
-    record { rec = both from position nothingKept; lends = lent command E mixed [] []; leaves = result answer (both to place sense) (lent command E mixed [] []) }
+ofTwo command from position answer to place sense = turnsTwo (twoAt from position nothingKept) command E mixed answer (twoAt to place sense)
 
 unfoldable pub onTwo : List Trap
 onTwo =
@@ -136,11 +124,11 @@ onTwo =
 
 unfoldable pub notSpaced : List Trap
 notSpaced =
-    turns (loaded 0x28 1 0 nothingKept) (toEnd 0) marked (check 0) (loaded 0 1 0 (plain 6 0x28 0)) ∷
-    turns (loaded 0x29 2 0 nothingKept) (long 1 (longBack 1)) marked (check 0) (loaded 0 2 0 (plain 6 0x29 0)) ∷
-    turns (loaded 0 0 0 nothingKept) (six 0x11 2 1) marked (check 0) (loaded 0 0 0 (plain 5 0x24 0)) ∷
-    turns (loaded 0 0 0 nothingKept) (long 2 1) marked (check 0) (loaded 0 0 0 (plain 5 0x24 0)) ∷
-    turns (bare 0 9 nothingKept) (toEnd 0) marked (check 0) (bare 0 9 (plain 2 0x3A 0)) ∷
+    turns (loaded 0x28 1 0 nothingKept) (toEnd 0) marked (crossedCheck 0) (loaded 0 1 0 (plain 6 0x28 0)) ∷
+    turns (loaded 0x29 2 0 nothingKept) (long 1 (longBack 1)) marked (crossedCheck 0) (loaded 0 2 0 (plain 6 0x29 0)) ∷
+    turns (loaded 0 0 0 nothingKept) (six 0x11 2 1) marked (crossedCheck 0) (loaded 0 0 0 (plain 5 0x24 0)) ∷
+    turns (loaded 0 0 0 nothingKept) (long 2 1) marked (crossedCheck 0) (loaded 0 0 0 (plain 5 0x24 0)) ∷
+    turns (bare 0 9 nothingKept) (toEnd 0) marked (crossedCheck 0) (bare 0 9 (plain 2 0x3A 0)) ∷
     refuses 1 (loaded 0 0 0 nothingKept) (0x11 ∷ 3 ∷ 0 ∷ 0 ∷ 0 ∷ []) marked [] ∷
     refuses 4 (loaded 0 4 0 nothingKept) (blocks (back 2)) marked [] ∷
     []

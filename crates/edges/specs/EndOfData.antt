@@ -4,11 +4,10 @@ use Prim.Native.Nat.{ℕ, _-_, _*_, _^_}
 use mathlib.Core.List.{List, [], _∷_, _++_}
 use lib.ListN.{replicate}
 use Rattle.words.specs.Words.{bytes, over, zeros}
-use Rattle.commands.specs.Call.{lent, result}
 use Rattle.codes.specs.Six.{six}
 use Rattle.codes.specs.Sixteen.{sixteen}
 use Rattle.edges.specs.Cases.{sense18, nothingKept, trailer, bare64, locate}
-use Rattle.edges.specs.Traps.{Trap, loaded, goodAnswer, check, crossedGood, crossedCheck, alone, turns}
+use Rattle.edges.specs.Traps.{Trap, loaded, goodAnswer, check, crossedGood, crossedCheck, alone, turns, turnsTwo, twoAt}
 
 -- a blank of 64 bytes with one block of n: 41 leave room 3, and 3 × 16 is not below 48; 42 leave room 2
 unfoldable pub one : ℕ → List ℕ
@@ -54,13 +53,9 @@ inTheZone = onSide 42 0x48
 
 -- ---- from a partition on one side, by CP, into one on the other: the target decides
 
-abbrev twoAt : ℕ → ℕ → List ℕ → List ℕ
-twoAt current position sense = (1 ∷ 2 ∷ current ∷ 0 ∷ []) ++ bytes 4 position ++ bytes 4 0 ++ sense
-
 -- partition 0 has a block of 41 bytes, partition 1 one of 42
 abbrev goesPast : List ℕ → ℕ → ℕ → ℕ → Trap
-goesPast command from to b2 =
-    record { rec = twoAt from 1 nothingKept; lends = lent command (one 41) (one 42) [] []; leaves = result (check 0) (twoAt to 1 (uncounted b2)) (lent command (one 41) (one 42) [] []) }
+goesPast command from to b2 = turnsTwo (twoAt from 1 nothingKept) command (one 41) (one 42) (check 0) (twoAt to 1 (uncounted b2))
 
 -- LOCATE (10) to object 2, with CP into a partition, or without
 abbrev into : ℕ → List ℕ

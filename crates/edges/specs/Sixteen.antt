@@ -6,10 +6,9 @@ use lib.ListN.{take}
 use Rattle.words.specs.Words.{bytes, zeros}
 use Rattle.answers.specs.declared.Answer.{Answer}
 use Rattle.image.specs.Example.{E}
-use Rattle.commands.specs.Call.{lent, result}
 use Rattle.codes.specs.Sixteen.{sixteen}
 use Rattle.edges.specs.Cases.{sense18, nothingKept, trailer, full}
-use Rattle.edges.specs.Traps.{Trap, loaded, bare, plain, goodAnswer, check, crossedGood, crossedCheck, refuses, turns, guarded}
+use Rattle.edges.specs.Traps.{Trap, loaded, bare, plain, goodAnswer, check, refuses, turns, turnsTwo, twoAt, goes, meets, guarded}
 
 -- ---- command blocks: a destination and an identifier; a code and a count, of which one below zero is given by its opposite
 
@@ -36,20 +35,9 @@ reaches part from command to = turns (loaded 0 from 0 nothingKept) command part 
 abbrev tells : List ℕ → ℕ → List ℕ → ℕ → List ℕ → Trap
 tells part from command to sense = turns (loaded 0 from 0 nothingKept) command part (check 0) (loaded 0 to 0 sense)
 
--- the same by SPACE, with how many objects it crossed (Q-10)
-abbrev spaces : List ℕ → ℕ → List ℕ → ℕ → ℕ → Trap
-spaces part from command to n = turns (loaded 0 from 0 nothingKept) command part (crossedGood n) (loaded 0 to 0 nothingKept)
-
-abbrev spacesTo : List ℕ → ℕ → List ℕ → ℕ → ℕ → List ℕ → Trap
-spacesTo part from command to n sense = turns (loaded 0 from 0 nothingKept) command part (crossedCheck n) (loaded 0 to 0 sense)
-
--- E and the other one in a drive, at a position of a partition
-abbrev both : ℕ → ℕ → List ℕ → List ℕ
-both current position sense = (1 ∷ 2 ∷ current ∷ 0 ∷ []) ++ bytes 4 position ++ bytes 4 0 ++ sense
-
+-- E and the other one in a drive
 abbrev changes : List ℕ → ℕ → ℕ → Answer → ℕ → ℕ → List ℕ → Trap
-changes command from position answer to place sense =
-    record { rec = both from position nothingKept; lends = lent command E files [] []; leaves = result answer (both to place sense) (lent command E files [] []) }
+changes command from position answer to place sense = turnsTwo (twoAt from position nothingKept) command E files answer (twoAt to place sense)
 
 -- two senses: end of data, by LOCATE; a field error
 abbrev past : List ℕ
@@ -106,26 +94,26 @@ sixteens =
     refuses 1 (loaded 0 1 0 nothingKept) (take 15 (space 0 0)) E [] ∷
     turns (loaded 0x28 1 0 nothingKept) (locate 0 0) E (check 0) (loaded 0 1 0 (plain 6 0x28 0)) ∷
     -- SPACE (16): P10 and P11; nothing to cross; to end of data; other codes; write protection has no say
-    spacesTo E 2 (space 0 (minus 5)) 1 1 (sense18 0xF0 0x80 0xFFFFFFFB 0x00 0x01) ∷
-    spacesTo E 1 (space 0 (minus 5)) 0 1 (sense18 0xF0 0x40 0xFFFFFFFC 0x00 0x04) ∷
-    spaces E 1 (space 1 0) 1 0 ∷
-    spaces E 0 (space 3 (minus 1)) 2 2 ∷
+    meets E 2 (space 0 (minus 5)) 1 1 (sense18 0xF0 0x80 0xFFFFFFFB 0x00 0x01) ∷
+    meets E 1 (space 0 (minus 5)) 0 1 (sense18 0xF0 0x40 0xFFFFFFFC 0x00 0x04) ∷
+    goes E 1 (space 1 0) 1 0 ∷
+    goes E 0 (space 3 (minus 1)) 2 2 ∷
     tells E 1 (space 2 1) 1 fieldError ∷
-    spaces guarded 0 (space 1 1) 2 2 ∷
+    goes guarded 0 (space 1 1) 2 2 ∷
     -- a residue of 2^31 − 1 fits, one of 2^31 does not; nor one that would fit by its low 32 bits alone
-    spacesTo files 0 (space 0 (2 ^ 31 + 1)) 3 3 (sense18 0xF0 0x80 0x7FFFFFFF 0x00 0x01) ∷
-    spacesTo files 0 (space 0 (2 ^ 31 + 2)) 3 3 (sense18 0x70 0x80 0 0x00 0x01) ∷
-    spacesTo files 0 (space 1 (2 ^ 31 + 1)) 5 5 (sense18 0xF0 0x08 0x7FFFFFFF 0x00 0x05) ∷
-    spacesTo files 0 (space 1 (2 ^ 31 + 2)) 5 5 (sense18 0x70 0x08 0 0x00 0x05) ∷
-    spacesTo files 0 (space 1 (2 ^ 32 + 3)) 5 5 (sense18 0x70 0x08 0 0x00 0x05) ∷
+    meets files 0 (space 0 (2 ^ 31 + 1)) 3 3 (sense18 0xF0 0x80 0x7FFFFFFF 0x00 0x01) ∷
+    meets files 0 (space 0 (2 ^ 31 + 2)) 3 3 (sense18 0x70 0x80 0 0x00 0x01) ∷
+    meets files 0 (space 1 (2 ^ 31 + 1)) 5 5 (sense18 0xF0 0x08 0x7FFFFFFF 0x00 0x05) ∷
+    meets files 0 (space 1 (2 ^ 31 + 2)) 5 5 (sense18 0x70 0x08 0 0x00 0x05) ∷
+    meets files 0 (space 1 (2 ^ 32 + 3)) 5 5 (sense18 0x70 0x08 0 0x00 0x05) ∷
     -- −2^31 fits, −2^31 − 1 does not
-    spacesTo files 2 (space 0 (minus (2 ^ 31 + 2))) 0 2 (sense18 0xF0 0x40 0x80000000 0x00 0x04) ∷
-    spacesTo files 2 (space 0 (minus (2 ^ 31 + 3))) 0 2 (sense18 0x70 0x40 0 0x00 0x04) ∷
-    spacesTo files 3 (space 0 (minus (2 ^ 31))) 2 1 (sense18 0xF0 0x80 0x80000000 0x00 0x01) ∷
-    spacesTo files 3 (space 0 (minus (2 ^ 31 + 1))) 2 1 (sense18 0x70 0x80 0 0x00 0x01) ∷
+    meets files 2 (space 0 (minus (2 ^ 31 + 2))) 0 2 (sense18 0xF0 0x40 0x80000000 0x00 0x04) ∷
+    meets files 2 (space 0 (minus (2 ^ 31 + 3))) 0 2 (sense18 0x70 0x40 0 0x00 0x04) ∷
+    meets files 3 (space 0 (minus (2 ^ 31))) 2 1 (sense18 0xF0 0x80 0x80000000 0x00 0x01) ∷
+    meets files 3 (space 0 (minus (2 ^ 31 + 1))) 2 1 (sense18 0x70 0x80 0 0x00 0x01) ∷
     -- the largest count and the least
-    spacesTo files 1 (space 1 (2 ^ 63 - 1)) 5 4 (sense18 0x70 0x08 0 0x00 0x05) ∷
-    spacesTo files 0 (space 0 (2 ^ 63 - 1)) 3 3 (sense18 0x70 0x80 0 0x00 0x01) ∷
-    spacesTo files 5 (space 1 (minus (2 ^ 63))) 0 5 (sense18 0x70 0x40 0 0x00 0x04) ∷
-    spacesTo files 4 (space 0 (minus (2 ^ 63))) 2 2 (sense18 0x70 0x80 0 0x00 0x01) ∷
+    meets files 1 (space 1 (2 ^ 63 - 1)) 5 4 (sense18 0x70 0x08 0 0x00 0x05) ∷
+    meets files 0 (space 0 (2 ^ 63 - 1)) 3 3 (sense18 0x70 0x80 0 0x00 0x01) ∷
+    meets files 5 (space 1 (minus (2 ^ 63))) 0 5 (sense18 0x70 0x40 0 0x00 0x04) ∷
+    meets files 4 (space 0 (minus (2 ^ 63))) 2 2 (sense18 0x70 0x80 0 0x00 0x01) ∷
     []

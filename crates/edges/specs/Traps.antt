@@ -32,6 +32,10 @@ loaded attention position blockLength sense = (1 ∷ 1 ∷ 0 ∷ attention ∷ [
 abbrev pub bare : ℕ → ℕ → List ℕ → List ℕ
 bare attention blockLength sense = (0 ∷ 0 ∷ 0 ∷ attention ∷ []) ++ bytes 4 0 ++ bytes 4 blockLength ++ sense
 
+-- on two partitions: the current one, the position in it, the kept sense
+abbrev pub twoAt : ℕ → ℕ → List ℕ → List ℕ
+twoAt current position sense = (1 ∷ 2 ∷ current ∷ 0 ∷ []) ++ bytes 4 position ++ bytes 4 0 ++ sense
+
 -- key, ASC and ASCQ alone
 abbrev pub plain : ℕ → ℕ → ℕ → List ℕ
 plain key asc ascq = sense18 0x70 key 0 asc ascq
@@ -64,6 +68,17 @@ refuses n rec command p0 p1 = record { rec = rec; lends = lent command p0 p1 [] 
 -- a command with no data whose only trace is the record
 abbrev pub turns : List ℕ → List ℕ → List ℕ → Answer → List ℕ → Trap
 turns rec command part answer rec′ = alone rec command part [] [] answer rec′ part []
+
+-- the same on two partitions
+abbrev pub turnsTwo : List ℕ → List ℕ → List ℕ → List ℕ → Answer → List ℕ → Trap
+turnsTwo rec command p0 p1 answer rec′ = record { rec = rec; lends = lent command p0 p1 [] []; leaves = result answer rec′ (lent command p0 p1 [] []) }
+
+-- a SPACE on one partition, from where and to where, and how many objects it crossed (Q-10): all the way; or not, with what it met
+abbrev pub goes : List ℕ → ℕ → List ℕ → ℕ → ℕ → Trap
+goes part from command to n = turns (loaded 0 from 0 nothingKept) command part (crossedGood n) (loaded 0 to 0 nothingKept)
+
+abbrev pub meets : List ℕ → ℕ → List ℕ → ℕ → ℕ → List ℕ → Trap
+meets part from command to n met = turns (loaded 0 from 0 nothingKept) command part (crossedCheck n) (loaded 0 to 0 met)
 
 -- ---- cartridges
 

@@ -45,6 +45,11 @@ low-bits a f = go (eqb (a .status) checkCondition) (f .carried) (f .refusal)
     go true c r = omega arith
     go false c r = omega arith
 
+-- what crosses nothing has the number that it had before there was a fourth
+pub number-as-before : (a : Answer) → a .crossed ≡ 0 → packed a ≡ a .carried + a .refusal * 2 ^ 32 + cond (eqb (a .status) checkCondition) (2 ^ 35) 0
+unfolding packed
+number-as-before a z = omega (arith, z)
+
 pub says : (a : Answer) → InBits a → Says (packed a) a
 says a f = record { fits = f; carried = u .carried; refusal = u .refusal; status = go (f .status); crossed = c; low = low-bits a f; whole = u .whole }
   where
