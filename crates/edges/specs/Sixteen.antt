@@ -21,10 +21,10 @@ space code count = sixteen 0x91 code 0 count
 abbrev minus : ℕ → ℕ
 minus n = 2 ^ 64 - n
 
--- ---- a cartridge of 64 bytes: two blocks, a filemark, a block, a filemark
+-- ---- a cartridge of 64 bytes: blocks of 1 and 2 bytes, a filemark, a block of 3, a filemark
 
 unfoldable pub files : List ℕ
-files = (1 ∷ 2 ∷ 3 ∷ []) ++ zeros 25 ++ bytes 4 0x80000003 ++ bytes 4 3 ++ bytes 4 0x80000002 ++ bytes 4 2 ++ bytes 4 1 ++ trailer 5 28
+files = (1 ∷ 2 ∷ 3 ∷ 4 ∷ 5 ∷ 6 ∷ []) ++ zeros 22 ++ bytes 4 0x80000006 ++ bytes 4 6 ++ bytes 4 0x80000003 ++ bytes 4 3 ++ bytes 4 1 ++ trailer 5 28
 
 -- ---- rows
 
