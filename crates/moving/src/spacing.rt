@@ -119,7 +119,8 @@ fn space_by(s: &[u8], d: Drive, code: u8, steps: i64) -> Left
 {
     if code == TO_END {
         let end = image::count_of(s);
-        return reaches(deeds::at(d, end), end - d.position);
+        let far = end - d.position;
+        return reaches(deeds::at(d, end), far);
     }
     let n = bounded(magnitude(steps));
     if steps < 0 {

@@ -11,17 +11,17 @@ use Rattle.moving.proofs.spacing.space_by.Tie as tie
 count-of-requires : tie.Need-count-of-requires
 count-of-requires c κs = trailer-in _ (c .before .before .pre .0)
 
+sub-far : tie.Need-sub-far
+sub-far c = rw (c .before .count-of .ensures) (c .before .before .before .before .pre .1)
+
 at-requires : tie.Need-at-requires
 at-requires c κs = search needs
-
-sub-reaches : tie.Need-sub-reaches
-sub-reaches c = rw (c .before .before .count-of .ensures) (c .before .before .before .before .before .pre .1)
 
 reaches-requires : tie.Need-reaches-requires
 reaches-requires c κs = search needs
 
 returns : tie.Need-returns
-returns c = spaced-to-end _ _ _ _ _ (c .before .before .before .before .if1 .taken) (c .before .before .before .before .before .before .pre .1) _ (c .before .before .before .count-of .ensures) _ (c .before .before .at .ensures) (c .reaches .ensures)
+returns c = spaced-to-end _ _ _ _ _ (c .before .before .before .before .if1 .taken) (c .before .before .before .before .before .before .pre .1) _ (c .before .before .before .count-of .ensures) _ (c .before .at .ensures) (c .reaches .ensures)
 
 magnitude-requires : tie.Need-magnitude-requires
 magnitude-requires c κs = search needs
@@ -52,8 +52,8 @@ space-by-spec =
     tie.close
     (tie.spec
     count-of-requires
+    sub-far
     at-requires
-    sub-reaches
     reaches-requires
     returns
     magnitude-requires
