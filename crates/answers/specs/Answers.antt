@@ -72,9 +72,13 @@ settledBy n lent made = cond (eqb n 0) (settled done made) (settled (refused n) 
 abbrev pub InFields : Answer → Type 0
 InFields a = (a .refusal < 2 ^ 3) × (a .crossed < 2 ^ 28)
 
--- bits 0 to 31 the bytes carried, 32 to 34 the refusal, bit 35 set for the status 02h, 36 to 63 the objects crossed
+-- 01's three numbers: bits 0 to 31 the bytes carried, 32 to 34 the refusal, bit 35 set for the status 02h
+abbrev pub packedThree : Answer → ℕ
+packedThree a = a .carried + a .refusal * 2 ^ 32 + cond (eqb (a .status) checkCondition) (2 ^ 35) 0
+
+-- and Q-10's fourth: bits 36 to 63 the objects crossed
 unfoldable pub packed : Answer → ℕ
-packed a = a .carried + a .refusal * 2 ^ 32 + cond (eqb (a .status) checkCondition) (2 ^ 35) 0 + a .crossed * 2 ^ 36
+packed a = packedThree a + a .crossed * 2 ^ 36
 
 -- the view's answer: the length in bits 0 to 31, the start above
 unfoldable pub packedPart : ℕ → ℕ → ℕ

@@ -10,7 +10,7 @@ use mathlib.Core.List.{List, [], _∷_}
 use native.Mathlib.Omega.{arith}
 use lib.Dec.{eqb, ltb}
 use Rattle.answers.specs.declared.Answer.{Answer}
-use Rattle.answers.specs.Answers.{checkCondition, packed}
+use Rattle.answers.specs.Answers.{checkCondition, packedThree, packed}
 use Rattle.answers.proofs.Fields.{Unpacked, unpacked, ByNumber, number-fits, part-unpacked}
 use Rattle.image.specs.declared.part.Part.{Part}
 use Rattle.image.specs.Image.{count, entry, topBit, endAt, sound}
@@ -36,9 +36,9 @@ use Rattle.exact.proofs.Small.{carries}
 -- ---- a number, by its parts
 
 -- without the fourth, by whether the status is 02h
-low-bits : (a : Answer) → InBits a → packed a % 2 ^ 36 ≡ a .carried + a .refusal * 2 ^ 32 + cond (eqb (a .status) checkCondition) (2 ^ 35) 0
+low-bits : (a : Answer) → InBits a → packed a % 2 ^ 36 ≡ packedThree a
 unfolding packed
-low-bits a f = go (eqb (a .status) checkCondition) (f .carried) (f .refusal)
+low-bits a f = go (eqb (a .status) checkCondition) (f .carried) (f .fields .0)
   where
     go : (t : Bool) → a .carried < 2 ^ 32 → a .refusal < 8
         → (a .carried + a .refusal * 2 ^ 32 + cond t (2 ^ 35) 0 + a .crossed * 2 ^ 36) % 2 ^ 36 ≡ a .carried + a .refusal * 2 ^ 32 + cond t (2 ^ 35) 0
@@ -46,7 +46,7 @@ low-bits a f = go (eqb (a .status) checkCondition) (f .carried) (f .refusal)
     go false c r = omega arith
 
 -- what crosses nothing has the number that it had before there was a fourth
-pub number-as-before : (a : Answer) → a .crossed ≡ 0 → packed a ≡ a .carried + a .refusal * 2 ^ 32 + cond (eqb (a .status) checkCondition) (2 ^ 35) 0
+pub number-as-before : (a : Answer) → a .crossed ≡ 0 → packed a ≡ packedThree a
 unfolding packed
 number-as-before a z = omega (arith, z)
 
@@ -54,10 +54,10 @@ pub says : (a : Answer) → InBits a → Says (packed a) a
 says a f = record { fits = f; carried = u .carried; refusal = u .refusal; status = go (f .status); crossed = c; low = low-bits a f; whole = u .whole }
   where
     u : Unpacked (packed a) a
-    u = unpacked a (f .carried) (f .refusal, f .crossed)
+    u = unpacked a (f .carried) (f .fields)
 
     c : packed a / 2 ^ 36 % 2 ^ 32 ≡ a .crossed
-    c = omega (arith, u .crossed, f .crossed)
+    c = omega (arith, u .crossed, f .fields .1)
 
     -- the bit that says the status is t
     bit : (t : Bool) → eqb (a .status) checkCondition ≡ t → a .status ≡ cond t checkCondition 0x00 → statusIn (packed a) ≡ a .status
@@ -71,7 +71,7 @@ says a f = record { fits = f; carried = u .carried; refusal = u .refusal; status
 -- ---- the house services
 
 number-bits : (a : Answer) → ByNumber a → InBits a
-number-bits a b = record { status = inl (ap (λ (x : Answer). x .status) (b .is)); refusal = number-fits a b .0; carried = rw (b .is) (omega arith); crossed = number-fits a b .1 }
+number-bits a b = record { status = inl (ap (λ (x : Answer). x .status) (b .is)); carried = rw (b .is) (omega arith); fields = number-fits a b }
 
 pub fresh-number : (rec : List ℕ) → Says (numbered (freshCall rec) .0) (freshCall rec .answer)
 fresh-number rec = says _ (number-bits _ (fresh-answers rec))
@@ -104,15 +104,15 @@ module _ (rec : List ℕ) (x : Lent) where
       go : Finished rec (x .cmd) (x .part0) (x .part1) (x .sent) (x .received) → InBits (R .answer)
       go (by-number n h f e) =
           let q = ap (λ (r : Result). r .answer) e in
-          record { status = inl (ap (λ (a : Answer). a .status) q); refusal = call-fits rec x .0; crossed = call-fits rec x .1; carried = rw (ap (λ (a : Answer). a .carried) q) (omega arith) }
+          record { status = inl (ap (λ (a : Answer). a .status) q); fields = call-fits rec x; carried = rw (ap (λ (a : Answer). a .carried) q) (omega arith) }
       go (by-sense s f e b w p l q) =
           let a = ap (λ (r : Result). r .answer) q in
-          record { status = inr (ap (λ (z : Answer). z .status) a); refusal = call-fits rec x .0; crossed = call-fits rec x .1; carried = rw (ap (λ (z : Answer). z .carried) a) (omega arith) }
+          record { status = inr (ap (λ (z : Answer). z .status) a); fields = call-fits rec x; carried = rw (ap (λ (z : Answer). z .carried) a) (omega arith) }
       go (by-act f w q e) =
           let o : Operation = operationOf (codeOf (x .cmd)) in
           let c = ap (λ (r : Result). r .answer .carried) e in
           let s = ap (λ (r : Result). r .answer .status) e in
-          record { status = subst (λ (n : ℕ). (n ≡ 0x00) ⊎ (n ≡ checkCondition)) (sym s) (status-known _); refusal = call-fits rec x .0; crossed = call-fits rec x .1; carried = subst (λ (n : ℕ). n < 2 ^ 32) (sym c) (carries rec x w o q) }
+          record { status = subst (λ (n : ℕ). (n ≡ 0x00) ⊎ (n ≡ checkCondition)) (sym s) (status-known _); fields = call-fits rec x; carried = subst (λ (n : ℕ). n < 2 ^ 32) (sym c) (carries rec x w o q) }
 
   pub command-number : Says (numberedResult (commandCall rec x) .number) (commandCall rec x .answer)
   command-number = says _ command-fits

@@ -1,13 +1,11 @@
 -- What a C program reads out of the number that an entry returns, macro by macro of include/stormtoggle.h. That this gives back the numbers of the
 -- answer: proofs/Numbers.antt.
 -- Assumes nothing: these are definitions.
-use Prim.Native.Nat.{ℕ, _+_, _*_, _/_, _%_, _^_, _<_}
+use Prim.Native.Nat.{ℕ, _*_, _/_, _%_, _^_, _<_}
 use mathlib.Core.Path.{_≡_}
 use mathlib.Core.Logic.{_⊎_}
-use mathlib.Core.Bool.{cond}
-use lib.Dec.{eqb}
 use Rattle.answers.specs.declared.Answer.{Answer}
-use Rattle.answers.specs.Answers.{checkCondition}
+use Rattle.answers.specs.Answers.{checkCondition, InFields, packedThree}
 
 -- STORMTOGGLE_CARRIED(answer): (uint32_t)(answer)
 abbrev pub carriedIn : ℕ → ℕ
@@ -33,12 +31,11 @@ lengthIn n = n % 2 ^ 32
 abbrev pub startIn : ℕ → ℕ
 startIn n = n / 2 ^ 32 % 2 ^ 32
 
--- "SCSI status (00h or 02h)", and what three, thirty-two and twenty-eight bits hold
+-- "SCSI status (00h or 02h)", and each number in its bits
 pub record InBits (a : Answer) : Type 0 where
   pub status : (a .status ≡ 0x00) ⊎ (a .status ≡ checkCondition)
-  pub refusal : a .refusal < 8
   pub carried : a .carried < 2 ^ 32
-  pub crossed : a .crossed < 2 ^ 28
+  pub fields : InFields a
 
 -- the returned number, of 64 bits, says the four numbers; its bits 0 to 35 say the first three as they did without the fourth (Q-10)
 pub record Says (n : ℕ) (a : Answer) : Type 0 where
@@ -47,7 +44,7 @@ pub record Says (n : ℕ) (a : Answer) : Type 0 where
   pub refusal : refusalIn n ≡ a .refusal
   pub status : statusIn n ≡ a .status
   pub crossed : crossedIn n ≡ a .crossed
-  pub low : n % 2 ^ 36 ≡ a .carried + a .refusal * 2 ^ 32 + cond (eqb (a .status) checkCondition) (2 ^ 35) 0
+  pub low : n % 2 ^ 36 ≡ packedThree a
   pub whole : n < 2 ^ 64
 
 -- a view's number says the start and the length of the part
