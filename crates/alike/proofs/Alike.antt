@@ -1,6 +1,6 @@
 -- SPACE (16) with a count that fits 24 bits leaves what SPACE (6) leaves, LOCATE (16) to an object what LOCATE (10) leaves: the whole outcome, for every record, partition and buffer.
 -- Assumes nothing.
-use Prim.Native.Nat.{ℕ, zero, suc, _+_, _-_, _^_, _%_, _<_, _≤_}
+use Prim.Native.Nat.{ℕ, zero, suc, _+_, _-_, _^_, _%_, _<_}
 use native.Mathlib.Nat.{pow-suc}
 use native.Mathlib.Omega.{arith}
 use mathlib.Core.Path.{_≡_, refl, sym, ap, _∙_}
@@ -29,7 +29,7 @@ use Rattle.commands.specs.Act.{Seen, offered, goesDown, targetOf, destination16
 use Rattle.commands.specs.Tests.{fieldError, taken, replyLength, needed, tests}
 use Rattle.commands.specs.Step.{acted, unless, step}
 use Rattle.commands.specs.Call.{lent, Outcome, outcome, looksAt, seen, faulty, applied, stepOf, called, written, commandCall}
-use Rattle.alike.specs.Alike.{under, Pair, SameSpace, SameLocate, inBits, Fits24, spaceShort, spaceLong, locateShort, locateLong}
+use Rattle.alike.specs.Alike.{under, Pair, SameSpace, SameLocate, inBits, Fits, Fits24, spaceShort, spaceLong, locateShort, locateLong}
 
 -- ---- two commands that look at the same partition, make the same tests and do the same
 
@@ -103,12 +103,12 @@ locate-alike rec short long p0 p1 sent received s = alike Locate Locate16 rec sh
 
 -- ---- as hosts write them
 
-and-true : (b : Bool) → b && true ≡ b
+pub and-true : (b : Bool) → b && true ≡ b
 and-true true = refl
 and-true false = refl
 
 -- a byte lies within FF, CP and IMMED within the masks of byte 1
-in-byte : (x : ℕ) → eqb (bitAnd (x % 256) 0xFF) (x % 256) ≡ true
+pub in-byte : (x : ℕ) → eqb (bitAnd (x % 256) 0xFF) (x % 256) ≡ true
 in-byte x = let e : x % 256 % 2 ^ 8 ≡ x % 256 = omega arith in eq-eqb (bitAnd (x % 256) 0xFF) (x % 256) (and-mask (x % 256) 8 ∙ e)
 
 in-flags : (f : ℕ) → f < 4 → (eqb (bitAnd f 0x03) f ≡ true) × (eqb (bitAnd f 0x3B) f ≡ true)
@@ -131,17 +131,31 @@ eight : (op byte1 byte3 n : ℕ) → n < 2 ^ 64 → be 8 (sixteen op byte1 byte3
 unfolding be bytes
 eight op byte1 byte3 n h = be-bytes 8 n h
 
--- an integer that fits 24 bits, in n + 1 bits of which there are no fewer: a number of that many bits, and read back
-module _ (n : ℕ) (wide : 2 ^ 23 ≤ 2 ^ n) where
-  in-bits : (k : ℤ) → Fits24 k → inBits (suc n) k < 2 ^ suc n
-  in-bits (pos m) h = omega (arith, wide, pow-suc 2 n)
-  in-bits (negsuc m) h = omega (arith, wide, pow-suc 2 n)
+-- an integer that fits n + 1 bits: a number of that many bits, and read back
+module _ (n : ℕ) where
+  in-bits : (k : ℤ) → Fits n k → inBits (suc n) k < 2 ^ suc n
+  in-bits (pos m) h = omega (arith, pow-suc 2 n)
+  in-bits (negsuc m) h = omega (arith, pow-suc 2 n)
 
-  read-back : (k : ℤ) → Fits24 k → signed (2 ^ n) (inBits (suc n) k) ≡ k
-  read-back (pos m) h = signed-low (2 ^ n) m (omega (arith, wide))
+  read-back : (k : ℤ) → Fits n k → signed (2 ^ n) (inBits (suc n) k) ≡ k
+  read-back (pos m) h = signed-low (2 ^ n) m h
   read-back (negsuc m) h =
-      let e : 2 ^ n + 2 ^ n - suc (2 ^ suc n - suc m) ≡ m = omega (arith, wide, pow-suc 2 n) in
-      signed-high (2 ^ n) (2 ^ suc n - suc m) (omega (arith, wide, pow-suc 2 n)) ∙ ap negsuc e
+      let e : 2 ^ n + 2 ^ n - suc (2 ^ suc n - suc m) ≡ m = omega (arith, pow-suc 2 n) in
+      signed-high (2 ^ n) (2 ^ suc n - suc m) (omega (arith, pow-suc 2 n)) ∙ ap negsuc e
+
+-- so the count of SPACE, of either length, is what the host wrote
+pub count-short : (code : ℕ) (k : ℤ) → Fits 23 k → spaceCountOf (spaceShort code k) ≡ k
+unfolding spaceCountOf
+count-short code k h = ap (signed (2 ^ 23)) (three code _ (in-bits 23 k h)) ∙ read-back 23 k h
+
+pub count-long : (code : ℕ) (k : ℤ) → Fits 63 k → spaceCount16Of (spaceLong code k) ≡ k
+unfolding spaceCount16Of
+count-long code k h = ap (signed (2 ^ 63)) (eight 0x91 code 0 _ (in-bits 63 k h)) ∙ read-back 63 k h
+
+-- what fits 24 bits fits 64
+pub fits-long : (k : ℤ) → Fits24 k → Fits 63 k
+fits-long (pos m) h = omega arith
+fits-long (negsuc m) h = omega arith
 
 -- SPACE (6) and SPACE (16) with any code and any count that fits 24 bits, as hosts write them, say the same
 pub spaces-same : (code : ℕ) (k : ℤ) → Fits24 k → SameSpace (spaceShort code k) (spaceLong code k)
@@ -149,8 +163,7 @@ unfolding spaceCodeOf spaceCountOf spaceCount16Of
 spaces-same code k h = record {
   pair = record { is-short = refl; is-long = refl; short-whole = unfold tooShort bytes in refl; long-whole = unfold tooShort bytes in refl; masks = within _ _ };
   code = refl;
-  count = ap (signed (2 ^ 23)) (three code _ (in-bits 23 (omega arith) k h)) ∙ read-back 23 (omega arith) k h
-      ∙ sym (ap (signed (2 ^ 63)) (eight 0x91 code 0 _ (in-bits 63 (omega arith) k h)) ∙ read-back 63 (omega arith) k h);
+  count = count-short code k h ∙ sym (count-long code k (fits-long k h));
 }
   where
     within : (m n : ℕ) → masksHold (six 0x11 code m) ≡ masksHold (sixteen 0x91 code 0 n)

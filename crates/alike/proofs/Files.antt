@@ -3,20 +3,18 @@
 use Prim.Native.Nat.{ℕ, zero, suc, zero-le, _^_, _<_}
 use native.Mathlib.Nat.{zero-add}
 use native.Mathlib.Omega.{arith}
-use mathlib.Core.Path.{_≡_, refl, sym, ap, ap₂, _∙_, subst}
-use mathlib.Core.Logic.{_⊎_, inl, inr}
-use mathlib.Core.Bool.{Bool, true, false, cond, not, _&&_}
-use mathlib.Core.Option.{Option, none, some}
+use mathlib.Core.Path.{_≡_, refl, sym, ap, _∙_, subst}
+use mathlib.Core.Logic.{inl}
+use mathlib.Core.Bool.{Bool, true, false}
+use mathlib.Core.Option.{Option, none}
 use mathlib.Core.List.{List, [], _∷_, _++_}
-use borrow.Author.Tests.{eq-eqb, ne-eqb, eqb-true, eqb-false, le-ltb, not-false}
-use lib.Dec.{eqb, ltb}
-use lib.IntN.{ℤ, pos}
+use borrow.Author.Tests.{eq-eqb, ne-eqb, le-ltb}
+use lib.Dec.{eqb}
+use lib.IntN.{pos}
 use lib.ListN.{length}
 use Rattle.words.specs.Words.{be, bytes, over, zeros}
 use Rattle.words.specs.Signed.{signed}
-use Rattle.words.proofs.Laws.{over-nil}
-use Rattle.answers.specs.Answers.{refused, answered, done, first}
-use Rattle.answers.proofs.First.{not-both}
+use Rattle.answers.specs.Answers.{answered, done, first}
 use Rattle.objects.specs.Object.{Object, filemark, block}
 use Rattle.objects.specs.Movement as M
 use Rattle.objects.specs.Transfer.{fitting, putFrom}
@@ -27,107 +25,35 @@ use Rattle.sense.specs.declared.Sense.{Sense}
 use Rattle.sense.specs.Sense.{senseBytes, emptySense}
 use Rattle.record.specs.declared.drive.Drive.{Drive}
 use Rattle.record.specs.Record.{noAttention, decodeOf, encodeOf, attentionKnown, placed, wellFormed, wellRecord, withSense}
-use Rattle.codes.specs.declared.operation.Operation.{Operation}
-use Rattle.codes.specs.declared.operation.Operation.the-variants.{Rewind, Space, Space16, Locate16}
-use Rattle.codes.specs.Codes.{codeOf, tooShort, operationOf, inMasks, masksHold}
+use Rattle.codes.specs.declared.operation.Operation.the-variants.{Rewind, Locate16}
+use Rattle.codes.specs.Codes.{tooShort, inMasks, masksHold}
 use Rattle.codes.specs.Six.{six}
 use Rattle.codes.specs.Sixteen.{sixteen}
-use Rattle.codes.specs.Fields.{spaceCodeOf, spaceCountOf, spaceCount16Of, changesPartition, destinationOf, identifierOf}
-use Rattle.commands.specs.Kinds.{writes}
-use Rattle.commands.specs.Act.{Seen, Deed, at, offered, goesDown, spaceTells, overFilemarks, movement, spacing, targetOf, destination16, locateTells, locating, act, eventsOf}
+use Rattle.codes.specs.Fields.{spaceCodeOf, spaceCountOf, changesPartition, destinationOf, identifierOf}
+use Rattle.commands.specs.Act.{Seen, at, offered, goesDown, spaceTells, overFilemarks, movement, spacing, targetOf, destination16, locateTells, locating, act, eventsOf}
 use Rattle.commands.specs.Tests.{tests, fieldError, taken, replyLength, needed}
-use Rattle.commands.specs.Step.{checkAnswer, statusOf, keptOf, acted, unless, step}
-use Rattle.commands.specs.Call.{Lent, lent, Result, result, partition, looksAt, seenOf, nothing, seen, inserted, laidOut, applied, stepOf, called, written, commandCall, commandTests}
+use Rattle.commands.specs.Step.{statusOf, keptOf, acted, unless, step}
+use Rattle.commands.specs.Call.{lent, Result, partition, looksAt, seenOf, nothing, seen, inserted, laidOut, applied, stepOf, called, commandCall, commandTests}
 use Rattle.commands.proofs.Crossed.{call-fits}
-use Rattle.commands.proofs.Ends.{call-acts}
-use Rattle.commands.proofs.Faultless.{Well, inside, back, no-fault, empty-whole}
-use Rattle.commands.proofs.Passed.{all-false}
-use Rattle.history.specs.History.{Cartridge, cartridge, isGood}
+use Rattle.commands.proofs.Faultless.{back, no-fault, empty-whole}
+use Rattle.history.specs.History.{cartridge, isGood}
 use Rattle.history.specs.Demand3.{Mounted}
-use Rattle.history.proofs.Ended.{Finished, by-number, by-sense, by-act, ended}
-use Rattle.history.proofs.Acted.{idle}
-use Rattle.history.proofs.Moved.{moved-well}
 use Rattle.alike.specs.Alike.{ToFile, OverMarks, Rewinds}
+use Rattle.alike.proofs.Moves.{Goes, landed, goes-left, passed, lands, was-mounted, standing, stands, stays-mounted, current, spaced-goes, spaced-passes}
 
 -- file f begins where SPACE over f filemarks from the beginning ends, and both end for the same reason
 pub file-as-marks : (f p : ℕ) (xs : List Object) → (M.toFile p f xs .to ≡ M.space M.filemarks (pos f) 0 xs .to) × (M.toFile p f xs .why ≡ M.space M.filemarks (pos f) 0 xs .why)
 unfolding M.toFile M.space M.ahead
 file-as-marks f p xs = (sym (zero-add (M.walk M.filemarks f xs .crossed)), refl)
 
--- ---- a command that moves the drive to position n of its partition, tells t, reports c objects as crossed, and does no more
-
-abbrev moves : Drive → ℕ → Option Sense → ℕ → Deed
-moves d n t c = record { drive = at d n; tells = t; received = []; carried = 0; crossed = c }
-
-record Goes (rec : List ℕ) (x : Lent) (n : ℕ) (t : Option Sense) (c : ℕ) : Type 0 where
-  o : Operation
-  is : operationOf (codeOf (x .cmd)) ≡ o
-  quiet : writes o ≡ false
-  does : act o (decodeOf rec) (x .cmd) (x .sent) (seen o (decodeOf rec) x) ≡ moves (decodeOf rec) n t c
-
--- what it leaves, and what if it tells nothing
-abbrev left : Drive → ℕ → Option Sense → ℕ → Lent → Result
-left d n t c x = result (answered (statusOf t) 0 c) (encodeOf (withSense (at d n) (keptOf t))) x
-
-abbrev landed : Drive → ℕ → ℕ → Lent → Result
-landed d n c x = result (answered 0 0 c) (encodeOf (withSense (at d n) emptySense)) x
-
-module _ (rec cmd p0 p1 sent received : List ℕ) where
-  abbrev d : Drive
-  d = decodeOf rec
-
-  abbrev x : Lent
-  x = lent cmd p0 p1 sent received
-
-  goes-left : (n : ℕ) (t : Option Sense) (c : ℕ) → Goes rec x n t c → first (commandTests rec x) ≡ none → commandCall rec x ≡ left d n t c x
-  unfolding applied acted
-  goes-left n t c w h =
-      call-acts rec x h
-      ∙ ap (λ (p : Operation). written rec (applied (acted p d cmd sent (seen p d x)) (looksAt p d cmd) x)) (w .is)
-      ∙ ap (λ (q : Cartridge). by (act (w .o) d cmd sent (seen (w .o) d x)) (q .part0) (q .part1)) (idle rec x (w .o) (w .quiet))
-      ∙ ap (λ (e : Deed). by e p0 p1) (w .does)
-      ∙ ap (λ (l : List ℕ). result (answered (statusOf t) 0 c) (encodeOf (withSense (at d n) (keptOf t))) (lent cmd p0 p1 sent l)) (over-nil received 0)
-    where
-      by : Deed → List ℕ → List ℕ → Result
-      by e q0 q1 = result (answered (statusOf (e .tells)) (e .carried) (e .crossed)) (encodeOf (withSense (e .drive) (keptOf (e .tells)))) (lent cmd q0 q1 sent (over received 0 (e .received)))
-
-  -- GOOD: no test stopped it, and it tells nothing
-  abbrev Good : Type 0
-  Good = isGood (commandCall rec x .answer) ≡ true
-
-  passed : Good → (first (commandTests rec x) ≡ none) × Well d p0 p1
-  passed g = go (ended rec cmd p0 p1 sent received)
-    where
-      not-so : (r : Result) → commandCall rec x ≡ r → isGood (r .answer) ≡ false → (first (commandTests rec x) ≡ none) × Well d p0 p1
-      not-so r e h = absurd (not-both (sym g ∙ ap (λ (y : Result). isGood (y .answer)) e ∙ h))
-
-      go : Finished rec cmd p0 p1 sent received → (first (commandTests rec x) ≡ none) × Well d p0 p1
-      go (by-number n h e q) = not-so (result (refused n) rec x) q (rw (ne-eqb n 0 (λ z. omega arith)) refl)
-      go (by-sense s e f b w z l q) = not-so (result checkAnswer (encodeOf (withSense f b)) x) q refl
-      go (by-act e w t q) = (e, w)
-
-  lands : (n : ℕ) (t : Option Sense) (c : ℕ) → Goes rec x n t c → Good → commandCall rec x ≡ landed d n c x
-  lands n t c w g = go t (goes-left n t c w (passed g .0))
-    where
-      go : (t : Option Sense) → commandCall rec x ≡ left d n t c x → commandCall rec x ≡ landed d n c x
-      go none q = unfold statusOf keptOf in q
-      go (some s) q = unfold statusOf in absurd (not-both (sym g ∙ ap (λ (y : Result). isGood (y .answer)) q))
-
 -- ---- the three commands
 
--- what a command sees of the current partition; where f filemarks of it end, and why; what SPACE over them from the beginning tells
-abbrev current : Drive → List ℕ → List ℕ → Seen
-current d p0 p1 = cond (ltb (d .current) (d .partitions)) (seenOf (partition (d .current) p0 p1)) nothing
-
+-- where f filemarks of what is seen end, and why; what SPACE over them from the beginning tells
 abbrev marks : ℕ → Seen → M.Walk
 marks f v = M.walk M.filemarks f (v .objects)
 
 abbrev tellsOver : ℕ → Seen → Option Sense
 tellsOver f v = spaceTells v (pos f) (M.space M.filemarks (pos f) 0 (v .objects))
-
--- SPACE of either length, by f
-abbrev Either : ℕ → List ℕ → Type 0
-Either f cmd = ((operationOf (codeOf cmd) ≡ Space) × (spaceCountOf cmd ≡ pos f)) ⊎ ((operationOf (codeOf cmd) ≡ Space16) × (spaceCount16Of cmd ≡ pos f))
 
 module _ (f : ℕ) (rec cmd p0 p1 sent received : List ℕ) where
   abbrev from : Drive
@@ -140,43 +66,43 @@ module _ (f : ℕ) (rec cmd p0 p1 sent received : List ℕ) where
   unfolding act locating destination16 M.locate M.toFile seen looksAt targetOf
   located-goes t = record { o = Locate16; is = t .is; quiet = refl; does = rw (t .stays, t .by-file, t .identifier) refl }
 
-  over-marks : from .position ≡ 0 → spacing from overFilemarks (pos f) v ≡ moves from (marks f v .crossed) (tellsOver f v) (marks f v .crossed)
-  unfolding spacing movement M.space M.ahead
-  over-marks z = rw (z, zero-add (marks f v .crossed)) refl
+  rewound-goes : Rewinds cmd → Goes rec (lent cmd p0 p1 sent received) 0 none 0
+  unfolding act
+  rewound-goes r = record { o = Rewind; is = r; quiet = refl; does = refl }
 
-  spaced-goes : OverMarks f cmd → from .position ≡ 0 → Goes rec (lent cmd p0 p1 sent received) (marks f v .crossed) (tellsOver f v) (marks f v .crossed)
-  unfolding act seen looksAt
-  spaced-goes m z = go (m .is)
-    where
-      go : Either f cmd → Goes rec (lent cmd p0 p1 sent received) (marks f v .crossed) (tellsOver f v) (marks f v .crossed)
-      go (inl h) = record { o = Space; is = h .0; quiet = refl; does = ap₂ (λ (c : ℕ) (k : ℤ). spacing from c k v) (m .code) (h .1) ∙ over-marks z }
-      go (inr h) = record { o = Space16; is = h .0; quiet = refl; does = ap₂ (λ (c : ℕ) (k : ℤ). spacing from c k v) (m .code) (h .1) ∙ over-marks z }
+  -- SPACE, from the beginning
+  from-beginning : OverMarks f cmd → from .position ≡ 0 → Goes rec (lent cmd p0 p1 sent received) (marks f v .crossed) (tellsOver f v) (marks f v .crossed)
+  unfolding movement M.space M.ahead
+  from-beginning m z =
+      subst (λ (n : ℕ). Goes rec (lent cmd p0 p1 sent received) n (tellsOver f v) (marks f v .crossed)) (zero-add (marks f v .crossed)) (rw z at (spaced-goes overFilemarks (pos f) rec cmd p0 p1 sent received m))
 
 -- ---- SPACE after REWIND
 
--- the record of the drive at the beginning
-abbrev beginning : List ℕ → List ℕ
-beginning rec = encodeOf (withSense (at (decodeOf rec) 0) emptySense)
-
 module _ (rec rewound p0 p1 sent received : List ℕ) (r : Rewinds rewound) (g : isGood (commandCall rec (lent rewound p0 p1 sent received) .answer) ≡ true) where
-  begins : decodeOf (beginning rec) ≡ withSense (at (decodeOf rec) 0) emptySense
-  begins = back (at (decodeOf rec) 0) emptySense (omega arith) (passed rec rewound p0 p1 sent received g .1 .small) empty-whole
+  begins : decodeOf (standing rec 0) ≡ withSense (at (decodeOf rec) 0) emptySense
+  begins = stands rec p0 p1 0 (omega arith) (passed rec rewound p0 p1 sent received g .1)
 
   -- a command on what a REWIND left that is GOOD is one on that record and the same partitions
-  rewinds : (cmd : List ℕ) → let b = commandCall rec (lent rewound p0 p1 sent received) in commandCall (b .rec) (lent cmd (b .lent .part0) (b .lent .part1) sent received) ≡ commandCall (beginning rec) (lent cmd p0 p1 sent received)
-  unfolding act
-  rewinds cmd = ap (λ (b : Result). commandCall (b .rec) (lent cmd (b .lent .part0) (b .lent .part1) sent received)) (lands rec rewound p0 p1 sent received 0 none 0 (record { o = Rewind; is = r; quiet = refl; does = refl }) g)
+  rewinds : (cmd : List ℕ) → let b = commandCall rec (lent rewound p0 p1 sent received) in commandCall (b .rec) (lent cmd (b .lent .part0) (b .lent .part1) sent received) ≡ commandCall (standing rec 0) (lent cmd p0 p1 sent received)
+  rewinds cmd = ap (λ (b : Result). commandCall (b .rec) (lent cmd (b .lent .part0) (b .lent .part1) sent received)) (lands rec rewound p0 p1 sent received 0 none 0 (rewound-goes 0 rec rewound p0 p1 sent received r) g)
 
-  then-goes : (f : ℕ) (spaced : List ℕ) → OverMarks f spaced → let v = current (decodeOf (beginning rec)) p0 p1 in Goes (beginning rec) (lent spaced p0 p1 sent received) (marks f v .crossed) (tellsOver f v) (marks f v .crossed)
+  then-goes : (f : ℕ) (spaced : List ℕ) → OverMarks f spaced → let v = current (decodeOf (standing rec 0)) p0 p1 in Goes (standing rec 0) (lent spaced p0 p1 sent received) (marks f v .crossed) (tellsOver f v) (marks f v .crossed)
   unfolding withSense
-  then-goes f spaced m = spaced-goes f (beginning rec) spaced p0 p1 sent received m (ap (λ (e : Drive). e .position) begins)
+  then-goes f spaced m = from-beginning f (standing rec 0) spaced p0 p1 sent received m (ap (λ (e : Drive). e .position) begins)
 
-  then-lands : (f : ℕ) (spaced : List ℕ) → OverMarks f spaced → isGood (commandCall (beginning rec) (lent spaced p0 p1 sent received) .answer) ≡ true
-      → commandCall (beginning rec) (lent spaced p0 p1 sent received) ≡ landed (decodeOf rec) (marks f (current (decodeOf rec) p0 p1) .crossed) (marks f (current (decodeOf rec) p0 p1) .crossed) (lent spaced p0 p1 sent received)
+  then-lands : (f : ℕ) (spaced : List ℕ) → OverMarks f spaced → isGood (commandCall (standing rec 0) (lent spaced p0 p1 sent received) .answer) ≡ true
+      → commandCall (standing rec 0) (lent spaced p0 p1 sent received) ≡ landed (decodeOf rec) (marks f (current (decodeOf rec) p0 p1) .crossed) (marks f (current (decodeOf rec) p0 p1) .crossed) (lent spaced p0 p1 sent received)
   unfolding withSense
   then-lands f spaced m h =
-      lands (beginning rec) spaced p0 p1 sent received _ _ _ (then-goes f spaced m) h
+      lands (standing rec 0) spaced p0 p1 sent received _ _ _ (then-goes f spaced m) h
       ∙ ap (λ (e : Drive). landed e (marks f (current e p0 p1) .crossed) (marks f (current e p0 p1) .crossed) (lent spaced p0 p1 sent received)) begins
+
+  -- it had a mounted cartridge and no attention before it, and leaves them
+  rewinds-mounted : Mounted rec (cartridge p0 p1)
+  rewinds-mounted = was-mounted rec rewound p0 p1 sent received (rw r refl) (rw r refl) g
+
+  still-mounted : Mounted (standing rec 0) (cartridge p0 p1)
+  still-mounted = stays-mounted rec p0 p1 0 (omega arith) zero-le (passed rec rewound p0 p1 sent received g .1) rewinds-mounted
 
 -- LOCATE (16) to file f and REWIND and SPACE over f filemarks, all GOOD, leave the same record, partitions and receiving buffer; and the same answer
 -- but for what SPACE crossed, which is as many objects as lie before where both end (Q-10: LOCATE "answers 0 there")
@@ -228,43 +154,6 @@ module _ (rec cmd p0 p1 sent received : List ℕ) (mounted : Mounted rec (cartri
   unfolding first commandTests tests fieldError taken needed replyLength
   located-passes f t = rw (t .is, whole, mounted .no-fault, within, t .by-file, t .stays, calm, has, le-ltb (length sent) 0 zero-le, le-ltb (length received) 0 zero-le) refl
 
-  spaced-passes : (f : ℕ) → OverMarks f cmd → first (commandTests rec (lent cmd p0 p1 sent received)) ≡ none
-  unfolding first commandTests tests fieldError taken needed replyLength
-  spaced-passes f m = go (m .is)
-    where
-      go : Either f cmd → first (commandTests rec (lent cmd p0 p1 sent received)) ≡ none
-      go (inl h) = rw (h .0, whole, mounted .no-fault, within, m .code, calm, has, le-ltb (length sent) 0 zero-le, le-ltb (length received) 0 zero-le) refl
-      go (inr h) = rw (h .0, whole, mounted .no-fault, within, m .code, calm, has, le-ltb (length sent) 0 zero-le, le-ltb (length received) 0 zero-le) refl
-
--- a REWIND that is GOOD had a mounted cartridge and no attention before it, and leaves them
-module _ (rec rewound p0 p1 sent received : List ℕ) (r : Rewinds rewound) (g : isGood (commandCall rec (lent rewound p0 p1 sent received) .answer) ≡ true) where
-  was-mounted : Mounted rec (cartridge p0 p1)
-  unfolding commandTests tests
-  was-mounted =
-      let p = passed rec rewound p0 p1 sent received g in
-      let t = rw r at (all-false (commandTests rec (lent rewound p0 p1 sent received)) (p .0)) in
-      record {
-        no-fault = not-false _ (t .1 .0);
-        loaded = inside (decodeOf rec) p0 p1 (p .1 .cart) (eqb-false (decodeOf rec .loaded) 0 (t .1 .1 .1 .1 .1 .1 .0)) .is;
-        no-attention = eqb-true (decodeOf rec .attention) noAttention (go (eqb (decodeOf rec .attention) noAttention) (t .1 .1 .0));
-      }
-    where
-      go : (b : Bool) → not b && true ≡ false → b ≡ true
-      go true e = refl
-      go false e = sym e
-
-  stays-mounted : Mounted (beginning rec) (cartridge p0 p1)
-  unfolding withSense
-  stays-mounted =
-      let d = decodeOf rec in
-      let e = begins rec rewound p0 p1 sent received r g in
-      let w = moved-well d p0 p1 0 (passed rec rewound p0 p1 sent received g .1) (λ z. omega (arith, was-mounted .loaded)) zero-le in
-      record {
-        no-fault = no-fault (at d 0) emptySense p0 p1 w empty-whole;
-        loaded = ap (λ (y : Drive). y .loaded) e ∙ was-mounted .loaded;
-        no-attention = ap (λ (y : Drive). y .attention) e ∙ was-mounted .no-attention;
-      }
-
 -- after a REWIND that is GOOD, LOCATE (16) to file f and SPACE over f filemarks, both whole and within their masks, are both GOOD or neither
 pub file-good : (f : ℕ) (rec located rewound spaced p0 p1 sent received : List ℕ) → ToFile f located → Rewinds rewound → OverMarks f spaced
     → tooShort located ≡ false → masksHold located ≡ true → tooShort spaced ≡ false → masksHold spaced ≡ true
@@ -276,8 +165,8 @@ unfolding withSense
 file-good f rec located rewound spaced p0 p1 sent received t r m la ka lc kc g =
     let good : Result → Bool = λ (y : Result). isGood (y .answer) in
     let told : Option Sense → Bool = λ (s : Option Sense). isGood (answered (statusOf s) 0 0) in
-    let qa = goes-left rec located p0 p1 sent received _ _ _ (located-goes f rec located p0 p1 sent received t) (located-passes rec located p0 p1 sent received (was-mounted rec rewound p0 p1 sent received r g) la ka f t) in
-    let qc = goes-left (beginning rec) spaced p0 p1 sent received _ _ _ (then-goes rec rewound p0 p1 sent received r g f spaced m) (spaced-passes (beginning rec) spaced p0 p1 sent received (stays-mounted rec rewound p0 p1 sent received r g) lc kc f m) in
+    let qa = goes-left rec located p0 p1 sent received _ _ _ (located-goes f rec located p0 p1 sent received t) (located-passes rec located p0 p1 sent received (rewinds-mounted rec rewound p0 p1 sent received r g) la ka f t) in
+    let qc = goes-left (standing rec 0) spaced p0 p1 sent received _ _ _ (then-goes rec rewound p0 p1 sent received r g f spaced m) (spaced-passes overFilemarks (pos f) (standing rec 0) spaced p0 p1 sent received m refl (still-mounted rec rewound p0 p1 sent received r g) lc kc) in
     ap good qa
     ∙ ap (λ (n : ℕ). isGood (answered n 0 0)) (tell-alike f (current (decodeOf rec) p0 p1))
     ∙ sym (ap (λ (e : Drive). told (tellsOver f (current e p0 p1))) (begins rec rewound p0 p1 sent received r g))

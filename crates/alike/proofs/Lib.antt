@@ -1,2 +1,3 @@
 pub mod Alike
+pub mod Moves
 pub mod Files

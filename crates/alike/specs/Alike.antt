@@ -46,14 +46,17 @@ pub record SameLocate (short long : List ℕ) : Type 0 where
 
 -- ---- as hosts write them
 
--- an integer in n bits, and that it fits 24
+-- an integer in n bits; and that it fits n bits and one for its sign, 24 with n = 23
 abbrev pub inBits : ℕ → ℤ → ℕ
 inBits n (pos m) = m
 inBits n (negsuc m) = 2 ^ n - suc m
 
+abbrev pub Fits : ℕ → ℤ → Type 0
+Fits n (pos m) = m < 2 ^ n
+Fits n (negsuc m) = m < 2 ^ n
+
 abbrev pub Fits24 : ℤ → Type 0
-Fits24 (pos m) = m < 2 ^ 23
-Fits24 (negsuc m) = m < 2 ^ 23
+Fits24 k = Fits 23 k
 
 abbrev pub spaceShort : ℕ → ℤ → List ℕ
 spaceShort code k = six (numberOf Space) code (inBits 24 k)
@@ -68,6 +71,12 @@ locateShort flags partition k = (numberOf Locate ∷ flags ∷ 0 ∷ []) ++ byte
 abbrev pub locateLong : ℕ → ℕ → ℕ → List ℕ
 locateLong flags partition k = sixteen (numberOf Locate16) flags partition k
 
+-- ---- SPACE of either length, with the code c and the count k
+
+pub record SpacesBy (c : ℕ) (k : ℤ) (cmd : List ℕ) : Type 0 where
+  pub is : ((operationOf (codeOf cmd) ≡ Space) × (spaceCountOf cmd ≡ k)) ⊎ ((operationOf (codeOf cmd) ≡ Space16) × (spaceCount16Of cmd ≡ k))
+  pub code : spaceCodeOf cmd ≡ c
+
 -- ---- to file f of the current partition: by LOCATE (16), or by REWIND and SPACE (of either length) over f filemarks
 
 pub record ToFile (f : ℕ) (cmd : List ℕ) : Type 0 where
@@ -76,9 +85,8 @@ pub record ToFile (f : ℕ) (cmd : List ℕ) : Type 0 where
   pub by-file : destinationOf cmd ≡ byFile
   pub identifier : identifierOf cmd ≡ f
 
-pub record OverMarks (f : ℕ) (cmd : List ℕ) : Type 0 where
-  pub is : ((operationOf (codeOf cmd) ≡ Space) × (spaceCountOf cmd ≡ pos f)) ⊎ ((operationOf (codeOf cmd) ≡ Space16) × (spaceCount16Of cmd ≡ pos f))
-  pub code : spaceCodeOf cmd ≡ overFilemarks
+abbrev pub OverMarks : ℕ → List ℕ → Type 0
+OverMarks f cmd = SpacesBy overFilemarks (pos f) cmd
 
 abbrev pub Rewinds : List ℕ → Type 0
 Rewinds cmd = operationOf (codeOf cmd) ≡ Rewind

@@ -1,0 +1,4 @@
+pub mod Movement
+pub mod Calls
+pub mod Hosts
+pub mod Cases
