@@ -12,7 +12,7 @@
 /* Objects are words: bK is a block of K bytes, B the largest there is, f a filemark, fK is K of them. Behind @K they go
  * on from byte K, wherever the last one ended. All cartridges before UNSOUND are sound, and none from it on. */
 enum cartridge {
-    NONE, E, GUARDED, BLANK, BLANK_65, TEN, FULL, MIXED, FILES, PARTED, PAIR, MARKS, BIG,
+    NONE, E, GUARDED, BLANK, BLANK_65, TEN, FULL, MIXED, FILES, PARTED, PAIR, MARKS, BIG, GUARDED_MIXED, GUARDED_FILES,
     LEFT_3, LEFT_2, MARKED_3, MARKED_2, GUARDED_3, GUARDED_2, LEFT_4_OF_65, LEFT_3_OF_65, LEFT_4_OF_80, LEFT_3_OF_80,
     BIG_BEFORE, BIG_IN,
     UNSOUND, OVERLAPPING, BLOCK_OF_0, FILEMARK_AT_1, FILEMARKS_AT_5
@@ -38,6 +38,8 @@ static const struct tape {
     [PAIR] = {SHORTEST, 0, 0xee, "b1 b2 f"},
     [MARKS] = {SHORTEST, 0, 0xee, "f3"},
     [BIG] = {2 * LARGEST_BLOCK + SHORTEST, 0, 0xee, "B"},
+    [GUARDED_MIXED] = {96, FLAG_PROTECTED, 0xee, "b3 f b3 b3 b5 f b3"},
+    [GUARDED_FILES] = {SHORTEST, FLAG_PROTECTED, 0xee, "b1 b2 f b3 f"},
     [LEFT_3] = {SHORTEST, 0, 0xee, "b41"},
     [LEFT_2] = {SHORTEST, 0, 0xee, "b42"},
     [MARKED_3] = {SHORTEST, 0, 0xee, "b37 f"},
@@ -264,16 +266,23 @@ static inline void hold_to(const struct call *call, int empty_is_null, const cha
 }
 
 /* A slice whose bytes stay gets no store, be it a partition, a buffer or the record of a refused call: each lies on
- * pages that cannot be written, unless it is changed. */
-static inline void hold_read_only(const struct call *call, const char *what)
+ * pages that cannot be written, unless it is changed. The record of another call may be written as it was. */
+static inline uint64_t answer_read_only(const struct call *call)
 {
     uint8_t *lent[SPANS];
     for (int span = 0; span < SPANS; span++) {
         size_t length = call->length[span];
         int stays = length > 0 && memcmp(call->before[span], call->after[span], length) == 0;
-        lent[span] = stays ? sealed(call->before[span], length) : call->before[span];
+        int may_store = span == THE_RECORD && STORMTOGGLE_REFUSAL(call->answer) == 0;
+        lent[span] = stays && !may_store ? sealed(call->before[span], length) : call->before[span];
     }
-    expect_in_child(answer_of(lent, call->length) == call->answer, "on read-only pages, %s", what);
+    return answer_of(lent, call->length);
+}
+
+/* The pages are the child's alone, and gone with it: a fork is slow where many are mapped. */
+static inline void hold_read_only(const struct call *call, const char *what)
+{
+    expect_in_child(answer_read_only(call) == call->answer, "on read-only pages, %s", what);
 }
 
 /* SPACE crosses what lies between the positions, and nothing else crosses, or the case itself is wrong. */

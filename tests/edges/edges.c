@@ -5,6 +5,7 @@
 #include "data.h"
 #include "ends.h"
 #include "long.h"
+#include "merged.h"
 #include "order.h"
 
 /* ---- the document's own table */
@@ -252,6 +253,7 @@ int main(void)
     long_movement();
     ends_of_data();
     objects_crossed();
+    merged_moves();
     three_lives();
     printf("%lu cases\n", cases_run);
     return tally();
