@@ -2,11 +2,13 @@
 # faults.sh: shows that tests/differential/differential.c can fail: the run of check finds each slip that is seeded in
 # the model, or, where a store may not go, behind the library; those marked so, the run with the largest work. The slips
 # of the directory's check are shown to tests/differential/damage.c too, and some to it alone; those of the movement by
-# sixteen bytes come next, then those of end of data, and those of the objects crossed last.
+# sixteen bytes come next, then those of end of data, those of the objects crossed, and last those of two moves or one,
+# which are seeded in the rule that holds the calls to each other.
 # LIBRARY names another archive than the one that is built here from the sources.
 set -u
 cd "$(dirname "$0")/../.." || exit 2
 . tests/library.sh
+calls=550000 # as in check
 
 slips=(
     "none"
@@ -51,7 +53,7 @@ slips+=(
     "the first object judged by end(1)"
 )
 failed=0
-run_with_slips tests/differential/differential.c 500000 "${slips[@]}" || failed=1
+run_with_slips tests/differential/differential.c "$calls" "${slips[@]}" || failed=1
 
 # The random work damages no directory that is long enough for these.
 slips+=(
@@ -88,7 +90,7 @@ slips+=(
 )
 echo "on movement by sixteen bytes"
 for fault in $(seq "$moves" $((${#slips[@]} - 1))); do
-    run_with_slip "$fault" "${slips[fault]}" tests/differential/differential.c 1 500000 || failed=1
+    run_with_slip "$fault" "${slips[fault]}" tests/differential/differential.c 1 "$calls" || failed=1
 done
 
 # Slips of EOM at end of data, each with the wrong answer that it gives.
@@ -116,7 +118,7 @@ slips+=(
 )
 echo "on end of data"
 for fault in $(seq "$ends" $((${#slips[@]} - 1))); do
-    run_with_slip "$fault" "${slips[fault]}" tests/differential/differential.c 1 500000 || failed=1
+    run_with_slip "$fault" "${slips[fault]}" tests/differential/differential.c 1 "$calls" || failed=1
 done
 
 # Slips of the number of objects that SPACE crossed, each with the wrong answer that it gives. SPACE is of either length
@@ -167,6 +169,29 @@ slips+=(
 )
 echo "on how far a SPACE went"
 for fault in $(seq "$crossed" $((${#slips[@]} - 1))); do
-    run_with_slip "$fault" "${slips[fault]}" tests/differential/differential.c 1 500000 || failed=1
+    run_with_slip "$fault" "${slips[fault]}" tests/differential/differential.c 1 "$calls" || failed=1
+done
+
+# Slips of the rule for two moves or one, each with the pair that shows it. It holds the library's calls to each other,
+# so each of these is a claim that Q-12 does not make.
+merged=${#slips[@]}
+slips+=(
+    "mixed signs over filemarks merge too, 2 and -1 end where 1 does"
+    "filemarks by a and then by -a come home"
+    "a first that stops at a filemark counts as GOOD, the one goes on where the second does"
+    "a first that stops at end of data or at the beginning counts as GOOD"
+    "the objects crossed add up for all signs, 4 for blocks 3 and then -1"
+    "a sum that 24 bits do not hold sent by its low 24 bits, back for 2^23"
+    "the residue of the one is the first's, not longer by the second's count"
+    "an attention told to the first, and the one moves all the same"
+    "the one keeps the sense that the first left, where the second is stopped"
+    "the one that is GOOD was two that are, for blocks that turn too"
+    "a first that is refused counts as GOOD, as its status is 00h"
+    "a residue of the one that no longer fits told by its low 32 bits"
+    "a second by 0 changes nothing, the one ends as it does though the first was stopped"
+)
+echo "on two moves or one"
+for fault in $(seq "$merged" $((${#slips[@]} - 1))); do
+    run_with_slip "$fault" "${slips[fault]}" tests/differential/differential.c 1 "$calls" || failed=1
 done
 exit "$failed"

@@ -2,7 +2,7 @@
 #ifndef REPORT_H
 #define REPORT_H
 
-#include "twin.h"
+#include "merged.h"
 
 static unsigned never_reached;
 
@@ -178,6 +178,13 @@ static inline void report_crossings(void)
     printf("\n");
 }
 
+static inline void report_pairs(void)
+{
+    printf("two moves or one: %lu pairs\n", shown(pairs.made));
+    for (int kind = 0; kind < PAIR_KINDS; kind++)
+        printf("two moves: %-55s %9lu\n", pair_names[kind], shown(pairs.kinds[kind]));
+}
+
 static inline void report_read_only(void)
 {
     printf("read-only: a WRITE that puts nothing %lu, the partition beside %lu, a buffer that receives nothing %lu, "
@@ -196,6 +203,7 @@ static inline int report(void)
     report_moves();
     report_ends();
     report_crossings();
+    report_pairs();
     report_read_only();
     printf("empty slices as NULL %lu, 2^32 bytes and more asked %lu, and lent %lu, 65,536 put %lu\n",
            shown(reached.null_slices), shown(reached.wide_products), shown(reached.wide_done),

@@ -279,6 +279,9 @@ static inline void begin_call(const struct call *call)
     memcpy(record_before, bytes_of(RECORD, MODEL), smaller(twins[RECORD].length, sizeof record_before));
 }
 
+/* What the library answered last, for those who compare calls with each other. */
+static uint64_t answered_last;
+
 /* Makes the call on both sides, and compares all that a caller can see. Returns the model's answer. */
 static inline uint64_t make_call(struct call call)
 {
@@ -295,7 +298,7 @@ static inline uint64_t make_call(struct call call)
     /* Among the many calls on small rooms one in eight, as it takes time; every one on sparse rooms. */
     if (one_in(8) || any_is_sparse())
         seal(by_model);
-    by_library = invoke(LIBRARY, &call);
+    by_library = answered_last = invoke(LIBRARY, &call);
     if (FAULT != 0)
         slip_a_store(by_model);
     running = IN_NEITHER;
