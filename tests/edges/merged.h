@@ -71,11 +71,13 @@ static const struct merged merged_filemarks[] = {
             GOES(0, 0), ELSEWHERE),
     BY_EACH("filemarks 1, -1 from a filemark", FILES, AT(2), FILEMARKS, 1, GOES(3, 1), -1, GOES(2, 1), 0, GOES(2, 0),
             TURNED),
-    /* Mixed signs: all three GOOD, at different places. */
+    /* Mixed signs: all three GOOD, at different places. Where the second goes farther it is the same place, though Q-12
+     * has no word on it. */
     BY_EACH("filemarks 2, -1 are not 1", FILES, AT(0), FILEMARKS, 2, GOES(5, 5), -1, GOES(4, 1), 1, GOES(3, 3),
             ELSEWHERE),
     BY_EACH("filemarks -2, 1 are not -1", FILES, AT(5), FILEMARKS, -2, GOES(2, 3), 1, GOES(3, 1), -1, GOES(4, 1),
             ELSEWHERE),
+    BY_EACH("filemarks 1, -2 are -1", FILES, AT(3), FILEMARKS, 1, GOES(5, 2), -2, GOES(2, 3), -1, GOES(2, 1), TURNED),
 };
 
 /* ---- one way, the first GOOD: the one ends as the second does, sense and residue included */
