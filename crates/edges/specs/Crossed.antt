@@ -14,13 +14,13 @@ use Rattle.edges.specs.Sixteen.{files}
 
 -- ---- SPACE of six bytes, over blocks and over filemarks; back by n; to end of data
 
-abbrev blocks : ℕ → List ℕ
+abbrev pub blocks : ℕ → List ℕ
 blocks n = six 0x11 0 n
 
-abbrev filemarks : ℕ → List ℕ
+abbrev pub filemarks : ℕ → List ℕ
 filemarks n = six 0x11 1 n
 
-abbrev back : ℕ → ℕ
+abbrev pub back : ℕ → ℕ
 back n = 2 ^ 24 - n
 
 abbrev toEnd : ℕ → List ℕ
@@ -28,10 +28,10 @@ toEnd n = six 0x11 3 n
 
 -- ---- and of sixteen
 
-abbrev long : ℕ → ℕ → List ℕ
+abbrev pub long : ℕ → ℕ → List ℕ
 long code n = sixteen 0x91 code 0 n
 
-abbrev longBack : ℕ → ℕ
+abbrev pub longBack : ℕ → ℕ
 longBack n = 2 ^ 64 - n
 
 -- ---- cartridges: two blocks and a filemark; seven objects, of which 1 and 5 are filemarks; beside them `files`, with filemarks at 2 and 4
@@ -47,13 +47,13 @@ mixed =
 
 -- ---- what it met, with the residue
 
-abbrev filemark : ℕ → List ℕ
+abbrev pub filemark : ℕ → List ℕ
 filemark residue = sense18 0xF0 0x80 residue 0x00 0x01
 
-abbrev end : ℕ → List ℕ
+abbrev pub end : ℕ → List ℕ
 end residue = sense18 0xF0 0x08 residue 0x00 0x05
 
-abbrev beginning : ℕ → List ℕ
+abbrev pub beginning : ℕ → List ℕ
 beginning residue = sense18 0xF0 0x40 residue 0x00 0x04
 
 -- ---- how far a SPACE went

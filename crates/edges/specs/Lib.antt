@@ -3,3 +3,4 @@ pub mod Traps
 pub mod Sixteen
 pub mod EndOfData
 pub mod Crossed
+pub mod Merged
