@@ -13,6 +13,7 @@
 #include <fcntl.h>
 #include <stdio.h>
 #include <stdlib.h>
+#include <string.h>
 #include <sys/mman.h>
 #include <unistd.h>
 
@@ -329,6 +330,32 @@ static void wind(struct drive *d)
     tell_support(d, 19);
 }
 
+/* A scheduler sends one SPACE in place of two where they may be merged (docs/SCHEDULING.md): the record is the same, to
+ * the byte. Over filemarks there and back they may not: both are GOOD, and the drive is not where it was. */
+static void send_as_one(struct drive *d)
+{
+    uint8_t behind_two[STORMTOGGLE_RECORD_LENGTH];
+    puts("\nTwo moves sent as one, and two that may not be");
+    locate(d, TILES, 9);
+    expect_good(d, TILES, 9);
+    space(d, BLOCKS, 4);
+    expect_good(d, TILES, 13);
+    space(d, BLOCKS, -1);
+    expect_good(d, TILES, 12);
+    memcpy(behind_two, d->record, sizeof behind_two);
+    locate(d, TILES, 9);
+    expect_good(d, TILES, 9);
+    space(d, BLOCKS, 3);
+    expect_good(d, TILES, 12);
+    expect_bytes(d, d->record, behind_two, sizeof behind_two);
+    puts("    scheduler: one move leaves what two left");
+    space(d, FILEMARKS, 1);
+    expect_good(d, TILES, 21);
+    space(d, FILEMARKS, -1);
+    expect_good(d, TILES, 20);
+    puts("    scheduler: over filemarks there and back is not home, and is never merged");
+}
+
 static void close_the_day(struct drive *d)
 {
     uint8_t tile[TILE];
@@ -385,6 +412,7 @@ int main(int count, char **words)
     fill(&d);
     plan_the_change(&d);
     wind(&d);
+    send_as_one(&d);
     close_the_day(&d);
     for (int i = TILES; i <= INDEX; i++)
         if (msync(d.tape[i].image, d.tape[i].length, MS_SYNC) != 0 || munmap(d.tape[i].image, d.tape[i].length) != 0)

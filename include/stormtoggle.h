@@ -47,7 +47,8 @@ enum { STORMTOGGLE_GOOD = 0x00, STORMTOGGLE_CHECK_CONDITION = 0x02 };
 /* Bits 36 to 63: how many objects a SPACE, of either length and by any code, crossed, filemarks included: the distance
  * between the position before and after it, whatever its status. That is not what it counted: a filemark that ends a
  * SPACE over blocks is crossed, and not counted in its residue. 0 for every other call, and for a SPACE that is refused
- * or ends in a test. */
+ * or ends in a test. (When one SPACE may be sent in place of two, and what then becomes of this number, is said in
+ * docs/SCHEDULING.md.) */
 #define STORMTOGGLE_CROSSED(answer) ((uint32_t)((uint64_t)(answer) >> 36))
 
 /* How long a partition's image, and a block in it, may be. */

@@ -6,7 +6,7 @@ use mathlib.Core.Path.{_≡_, refl, sym, ap, ap₂, _∙_, subst}
 use mathlib.Core.Bool.{Bool, true, false, cond, _&&_}
 use mathlib.Core.Option.{Option, none, some}
 use mathlib.Core.List.{List}
-use lib.IntN.{ℤ, pos, negsuc, negℤ, natAbs, _+ℤ_, _-ℤ_, +ℤ-idl, +ℤ-assoc, +ℤ-comm, +ℤ-invr, negℤ-+ℤ}
+use lib.IntN.{ℤ, pos, negsuc, negℤ, natAbs, _+ℤ_, _-ℤ_, +ℤ-idl}
 use borrow.Author.Tests.{lt-ltb, eqb-true, eqb-false}
 use lib.Dec.{eqb}
 use lib.ListN.{length}
@@ -31,8 +31,8 @@ use Rattle.commands.proofs.Faultless.{inside, fault-free, back, kept-whole}
 use Rattle.history.specs.History.{cartridge, isGood}
 use Rattle.history.specs.Demand3.{Mounted}
 use Rattle.alike.proofs.Moves.{spaceStop, spaced-tests, Goes, left, landed, goes-left, tells-none, standing, stands, stays-mounted, current, servedCode, spaced-goes, spaced-passes, space-mounted}
-use Rattle.merged.specs.Merged.{atLeast0, atMost0, oneWay, mayMerge, second, Done, following, inRow, Command, lending, calling, thenCalling, Good, codeOver, Spaces, leaving, MergedCalls, StopsAlike}
-use Rattle.merged.proofs.Movement.{blocks-place, one-way, two-or-one, both-or-none, comes-home, all-moved, done-far}
+use Rattle.merged.specs.Merged.{atLeast0, atMost0, oneWay, mayMerge, second, Done, following, Command, lending, calling, thenCalling, Good, codeOver, Spaces, leaving, MergedCalls, StopsAlike}
+use Rattle.merged.proofs.Movement.{blocks-place, left-over, in-row-early, one-way, two-or-one, both-or-none, comes-home, all-moved, done-far}
 
 -- ---- one SPACE over c by k
 
@@ -204,13 +204,6 @@ good-place k rec p0 p1 x s g =
 
 -- ---- one way, whatever the second's end
 
--- what is left of a + b behind a and q is what is left of b behind q
-left-over : (a b q : ℤ) → (a +ℤ b) -ℤ (a +ℤ q) ≡ b -ℤ q
-left-over a b q =
-    ap₂ (λ (i j : ℤ). i +ℤ j) (+ℤ-comm a b) (negℤ-+ℤ a q)
-    ∙ +ℤ-assoc b a (negℤ a +ℤ negℤ q)
-    ∙ ap (λ (i : ℤ). b +ℤ i) (sym (+ℤ-assoc a (negℤ a) (negℤ q)) ∙ ap (λ (i : ℤ). i +ℤ negℤ q) (+ℤ-invr a) ∙ +ℤ-idl (negℤ q))
-
 -- so the one tells what the second tells, its residue too
 tells-on : (v : Seen) (a b : ℤ) (m n : M.Move) → oneWay a b ≡ true → m .moved ≡ a → (b ≡ pos 0 → Done n) → spaceTells v (a +ℤ b) (following M.done m n) ≡ spaceTells v b n
 unfolding spaceTells following oneWay atLeast0 atMost0 M.residue
@@ -277,14 +270,6 @@ told-early v j k m n = by (m .why) j k refl
     by M.edge (pos p) (negsuc q) e = rw e refl
     by M.edge (negsuc p) (pos q) e = rw e refl
     by M.edge (negsuc p) (negsuc q) e = rw e refl
-
-in-row-early : (m n : M.Move) → (Done m → ⊥) → inRow m n ≡ m
-in-row-early m n h = go (m .why) refl
-  where
-    go : (y : M.Why) → m .why ≡ y → following (m .why) m n ≡ m
-    go M.done e = absurd (h e)
-    go M.marked e = unfold following in rw e refl
-    go M.edge e = unfold following in rw e refl
 
 unstopped-mounted : (rec p0 p1 : List ℕ) → spaceStop rec p0 p1 ≡ none → Mounted rec (cartridge p0 p1)
 unstopped-mounted rec p0 p1 h = go (wellRecord rec && inserted d p0 p1) (eqb (d .attention) noAttention) (eqb (d .loaded) 0) refl refl refl h

@@ -10,11 +10,11 @@ use mathlib.Core.List.{List, [], _∷_}
 use lib.Dec.{T, ltb, ltb→lt, nltb→le}
 use lib.ListN.{drop, getD}
 use lib.Seq.{getD-drop, drop-drop}
-use lib.IntN.{ℤ, pos, negsuc, subℕ, _+ℤ_, negℤ, natAbs, +ℤ-assoc, +ℤ-comm, +ℤ-invr, negℤ-+ℤ}
+use lib.IntN.{ℤ, pos, negsuc, subℕ, _+ℤ_, _-ℤ_, negℤ, natAbs, +ℤ-idl, +ℤ-idr, +ℤ-assoc, +ℤ-comm, +ℤ-invr, negℤ-+ℤ}
 use Rattle.answers.proofs.First.{not-both}
 use Rattle.objects.specs.Object.{Object, filemark, block, isFilemark}
 use Rattle.objects.specs.Movement as M
-use Rattle.objects.proofs.Walk.{walk-within, counted-crossed, walk-done, length-before, drop-before, still}
+use Rattle.objects.proofs.Walk.{walk-within, counted-le, counted-crossed, walk-done, length-before, drop-before, still}
 use Rattle.merged.specs.Merged.{atLeast0, atMost0, oneWay, mayMerge, second, Done, Adds, Merges, following, inRow}
 
 -- ---- one way: by what lies ahead
@@ -295,14 +295,82 @@ both-or-none c a b p xs w h = go (m .why) refl (sym (ap (λ (k : M.Move). k .why
     go M.marked e f = absurd (let z : _≡_ {A = ℕ} 0 1 = cc in omega arith)
     go M.edge e f = absurd (let z : _≡_ {A = ℕ} 0 1 = cc in omega arith)
 
--- and of a first that is not done, the one has left what that has and all of b
-pub left-and-more : (a b : ℤ) (m : M.Move) → M.residue (a +ℤ b) m ≡ M.residue a m +ℤ b
-unfolding M.residue
-left-and-more a b m = +ℤ-assoc a b (negℤ (m .moved)) ∙ ap (λ (k : ℤ). a +ℤ k) (+ℤ-comm b (negℤ (m .moved))) ∙ sym (+ℤ-assoc a (negℤ (m .moved)) b)
-
 -- "so a followed by −a comes home when both are GOOD"
 pub comes-home : (a : ℤ) (p : ℕ) (xs : List Object) → Done (M.space M.blocks a p xs) → Done (second M.blocks a (negℤ a) p xs) → second M.blocks a (negℤ a) p xs .to ≡ p
 comes-home a p xs e f =
     sym (over-blocks a (negℤ a) p xs e f .place)
     ∙ ap (λ (k : ℤ). M.space M.blocks k p xs .to) (+ℤ-invr a)
     ∙ ap (λ (m : M.Move). m .to) (still M.blocks p xs)
+
+-- ---- one way, which of the two stopped, by the residue of the one
+
+-- what is left of a + b behind a and q is what is left of b behind q
+pub left-over : (a b q : ℤ) → (a +ℤ b) -ℤ (a +ℤ q) ≡ b -ℤ q
+left-over a b q =
+    ap₂ (λ (i j : ℤ). i +ℤ j) (+ℤ-comm a b) (negℤ-+ℤ a q)
+    ∙ +ℤ-assoc b a (negℤ a +ℤ negℤ q)
+    ∙ ap (λ (i : ℤ). b +ℤ i) (sym (+ℤ-assoc a (negℤ a) (negℤ q)) ∙ ap (λ (i : ℤ). i +ℤ negℤ q) (+ℤ-invr a) ∙ +ℤ-idl (negℤ q))
+
+-- a first that is not done is all there is
+pub in-row-early : (m n : M.Move) → (Done m → ⊥) → inRow m n ≡ m
+in-row-early m n h = go (m .why) refl
+  where
+    go : (y : M.Why) → m .why ≡ y → following (m .why) m n ≡ m
+    go M.done e = absurd (h e)
+    go M.marked e = unfold following in rw e refl
+    go M.edge e = unfold following in rw e refl
+
+-- a walk that is not done counted less than was asked for
+stops-short : (c : M.Code) (n : ℕ) (xs : List Object) → (M.walk c n xs .why ≡ M.done → ⊥) → M.walk c n xs .counted < n
+unfolding M.walk
+stops-short c zero xs h = absurd (h refl)
+stops-short c (suc n) [] h = omega arith
+stops-short M.blocks (suc n) (filemark ∷ xs) h = omega arith
+stops-short M.blocks (suc n) (block bs ∷ xs) h = suc-le-suc (stops-short M.blocks n xs h)
+stops-short M.filemarks (suc n) (filemark ∷ xs) h = suc-le-suc (stops-short M.filemarks n xs h)
+stops-short M.filemarks (suc n) (block bs ∷ xs) h = stops-short M.filemarks (suc n) xs h
+
+-- what is left of a count, and what was counted, make up the count
+size-back : (n : ℕ) → natAbs (negℤ (pos n)) ≡ n
+size-back zero = refl
+size-back (suc n) = refl
+
+left-of : (n q : ℕ) → q ≤ n → (natAbs (pos n -ℤ pos q) + q ≡ n) × (natAbs (negℤ (pos n) -ℤ negℤ (pos q)) + q ≡ n)
+left-of n zero h = (omega arith, rw (+ℤ-idr (negℤ (pos n)), size-back n) (omega arith))
+left-of zero (suc q) h = absurd (omega arith)
+left-of (suc n) (suc q) h = (omega (arith, size-between (suc n) (suc q)), omega (arith, size-between (suc q) (suc n)))
+
+left-size : (c : M.Code) (k : ℤ) (p : ℕ) (xs : List Object) → let m = M.space c k p xs in natAbs (M.residue k m) + natAbs (m .moved) ≡ natAbs k
+unfolding M.space M.ahead M.astern M.residue
+left-size c (pos n) p xs = left-of n (M.walk c n (drop p xs) .counted) (counted-le c n (drop p xs)) .0
+left-size c (negsuc n) p xs =
+    let q = M.walk c (suc n) (M.before p xs) .counted in
+    rw (size-back q) (left-of (suc n) q (counted-le c (suc n) (M.before p xs)) .1)
+
+moved-short : (c : M.Code) (k : ℤ) (p : ℕ) (xs : List Object) → (Done (M.space c k p xs) → ⊥) → natAbs (M.space c k p xs .moved) < natAbs k
+unfolding M.space M.ahead M.astern
+moved-short c (pos n) p xs h = stops-short c n (drop p xs) h
+moved-short c (negsuc n) p xs h = rw (size-back (M.walk c (suc n) (M.before p xs) .counted)) (stops-short c (suc n) (M.before p xs) h)
+
+-- of a first that is done no more is left than b; of one that is not, what it left and all of b, which is more
+pub which-stopped : (c : M.Code) (a b : ℤ) (p : ℕ) (xs : List Object) → oneWay a b ≡ true
+    → let m = M.space c a p xs in
+    let r = M.residue (a +ℤ b) (M.space c (a +ℤ b) p xs) in
+    (Done m → r ≡ M.residue b (second c a b p xs)) × (Done m → natAbs r ≤ natAbs b) × ((Done m → ⊥) → r ≡ M.residue a m +ℤ b) × ((Done m → ⊥) → natAbs b < natAbs r)
+unfolding following M.residue
+which-stopped c a b p xs w = (after, λ e. rw (after e) (omega (arith, left-size c b (m .to) xs)), early, λ h. omega (arith, left-size c (a +ℤ b) p xs, sizes-add a b .along w, moved-short c a p xs h, ap (λ (k : M.Move). natAbs (k .moved)) (first-alone h)))
+  where
+    m : M.Move
+    m = M.space c a p xs
+
+    n : M.Move
+    n = second c a b p xs
+
+    after : Done m → (a +ℤ b) -ℤ M.space c (a +ℤ b) p xs .moved ≡ b -ℤ n .moved
+    after e = ap (λ (k : M.Move). (a +ℤ b) -ℤ k .moved) (one-way c a b p xs w ∙ ap (λ (y : M.Why). following y m n) e) ∙ ap (λ (k : ℤ). (a +ℤ b) -ℤ (k +ℤ n .moved)) (all-moved c a p xs e) ∙ left-over a b (n .moved)
+
+    first-alone : (Done m → ⊥) → M.space c (a +ℤ b) p xs ≡ m
+    first-alone h = one-way c a b p xs w ∙ in-row-early m n h
+
+    early : (Done m → ⊥) → (a +ℤ b) -ℤ M.space c (a +ℤ b) p xs .moved ≡ a -ℤ m .moved +ℤ b
+    early h = ap (λ (k : M.Move). (a +ℤ b) -ℤ k .moved) (first-alone h) ∙ +ℤ-assoc a b (negℤ (m .moved)) ∙ ap (λ (k : ℤ). a +ℤ k) (+ℤ-comm b (negℤ (m .moved))) ∙ sym (+ℤ-assoc a (negℤ (m .moved)) b)
