@@ -9,6 +9,16 @@ set -u
 cd "$(dirname "$0")/../.." || exit 2
 . tests/library.sh
 calls=550000 # as in check
+failed=0
+
+# Shows the slips from a number on, one after the other, to the run of check.
+show_from() { # NUMBER WHAT
+    local fault
+    echo "$2"
+    for fault in $(seq "$1" $((${#slips[@]} - 1))); do
+        run_with_slip "$fault" "${slips[fault]}" tests/differential/differential.c 1 "$calls" || failed=1
+    done
+}
 
 slips=(
     "none"
@@ -52,7 +62,6 @@ slips+=(
     "an entry judged by the end of the entry after it"
     "the first object judged by end(1)"
 )
-failed=0
 run_with_slips tests/differential/differential.c "$calls" "${slips[@]}" || failed=1
 
 # The random work damages no directory that is long enough for these.
@@ -88,10 +97,7 @@ slips+=(
     "no file above 65,535 is found, 8/00/05"
     "no file above 16,777,215 is found, 8/00/05"
 )
-echo "on movement by sixteen bytes"
-for fault in $(seq "$moves" $((${#slips[@]} - 1))); do
-    run_with_slip "$fault" "${slips[fault]}" tests/differential/differential.c 1 "$calls" || failed=1
-done
+show_from "$moves" "on movement by sixteen bytes"
 
 # Slips of EOM at end of data, each with the wrong answer that it gives.
 ends=${#slips[@]}
@@ -116,10 +122,7 @@ slips+=(
     "EOM told with a filemark too that READ meets in the zone, C0h"
     "EOM told by the target's room and the length of the partition at which LOCATE began"
 )
-echo "on end of data"
-for fault in $(seq "$ends" $((${#slips[@]} - 1))); do
-    run_with_slip "$fault" "${slips[fault]}" tests/differential/differential.c 1 "$calls" || failed=1
-done
+show_from "$ends" "on end of data"
 
 # Slips of the number of objects that SPACE crossed, each with the wrong answer that it gives. SPACE is of either length
 # where nothing else is said, and the number of the SPACE before is told by the call right after it alone.
@@ -167,10 +170,7 @@ slips+=(
     "a SPACE that crosses nothing answers with the number of the SPACE before"
     "0 always, as before there was a fourth number"
 )
-echo "on how far a SPACE went"
-for fault in $(seq "$crossed" $((${#slips[@]} - 1))); do
-    run_with_slip "$fault" "${slips[fault]}" tests/differential/differential.c 1 "$calls" || failed=1
-done
+show_from "$crossed" "on how far a SPACE went"
 
 # Slips of the rule for two moves or one, each with the pair that shows it. It holds the library's calls to each other,
 # so each of these is a claim that Q-12 does not make.
@@ -190,8 +190,5 @@ slips+=(
     "a residue of the one that no longer fits told by its low 32 bits"
     "a second by 0 changes nothing, the one ends as it does though the first was stopped"
 )
-echo "on two moves or one"
-for fault in $(seq "$merged" $((${#slips[@]} - 1))); do
-    run_with_slip "$fault" "${slips[fault]}" tests/differential/differential.c 1 "$calls" || failed=1
-done
+show_from "$merged" "on two moves or one"
 exit "$failed"

@@ -17,6 +17,7 @@ use Rattle.answers.specs.Answers.{first}
 use Rattle.answers.proofs.Fields.{ByNumber}
 use Rattle.objects.specs.Object.{Object, filemark, block}
 use Rattle.objects.specs.Movement as M
+use Rattle.objects.proofs.Residue.{size-back}
 use Rattle.objects.proofs.Walk.{counted-crossed, still}
 use Rattle.image.specs.Image.{count, objects}
 use Rattle.image.proofs.Objects.{length-objects}
@@ -42,10 +43,6 @@ use Rattle.exact.specs.Crossed.{Spaces, movementOf, apart, uncountedMark
 use Rattle.exact.proofs.Residues.{position-after}
 
 -- ---- of a movement: what is counted beside what is crossed
-
-size-back : (n : ℕ) → natAbs (negℤ (pos n)) ≡ n
-size-back zero = refl
-size-back (suc n) = refl
 
 walk-blocks : (n : ℕ) (xs : List Object) → M.walk M.blocks n xs .crossed ≡ M.walk M.blocks n xs .counted + uncountedMark (M.walk M.blocks n xs .why)
 unfolding M.walk

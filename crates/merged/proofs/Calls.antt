@@ -32,7 +32,10 @@ use Rattle.history.specs.History.{cartridge, isGood}
 use Rattle.history.specs.Demand3.{Mounted}
 use Rattle.alike.proofs.Moves.{spaceStop, spaced-tests, Goes, left, landed, goes-left, tells-none, standing, stands, stays-mounted, current, servedCode, spaced-goes, spaced-passes, space-mounted}
 use Rattle.merged.specs.Merged.{atLeast0, atMost0, oneWay, mayMerge, second, Done, following, Command, lending, calling, thenCalling, Good, codeOver, Spaces, leaving, MergedCalls, StopsAlike}
-use Rattle.merged.proofs.Movement.{blocks-place, left-over, in-row-early, one-way, two-or-one, both-or-none, comes-home, all-moved, done-far}
+use Rattle.merged.proofs.OneWay.{in-row-early, one-way, both-or-none, all-moved, done-far}
+use Rattle.merged.proofs.Blocks.{blocks-place}
+use Rattle.merged.proofs.Movement.{two-or-one, comes-home}
+use Rattle.merged.proofs.Residues.{left-over}
 
 -- ---- one SPACE over c by k
 
@@ -152,7 +155,7 @@ module _ (c : M.Code) (a b : ℤ) (rec p0 p1 : List ℕ) (x y : Command) (sx : S
 pub two-calls-or-one : (c : M.Code) (a b : ℤ) (rec p0 p1 : List ℕ) (x y z : Command) → mayMerge c a b ≡ true → Spaces c a x → Spaces c b y → Spaces c (a +ℤ b) z
     → let r = calling x rec p0 p1 in
     let s = thenCalling y r in
-    Good r → Good s → MergedCalls a b p0 p1 y z r s (calling z rec p0 p1)
+    Good r → Good s → MergedCalls a b p0 p1 x y z r s (calling z rec p0 p1)
 two-calls-or-one c a b rec p0 p1 x y z w sx sy sz g h =
     let d = decodeOf rec in
     let m = good-mounted c a rec p0 p1 x sx g in
@@ -166,7 +169,7 @@ two-calls-or-one c a b rec p0 p1 x y z w sx sy sz g h =
     record {
       good = done-good c (a +ℤ b) rec p0 p1 z sz m (merges .good);
       one = t-is ∙ ap₂ (λ (n : ℕ) (u : Result). leaving u n z p0 p1) (sym (ap (λ (u : Result). u .answer .crossed) t-is)) (sym s-is);
-      two = s-is ∙ ap (λ (u : Result). leaving u (u .answer .crossed) y p0 p1) (sym s-is);
+      two = (r-is ∙ ap (λ (u : Result). leaving u (u .answer .crossed) x p0 p1) (sym r-is), s-is ∙ ap (λ (u : Result). leaving u (u .answer .crossed) y p0 p1) (sym s-is));
       crossed = rw (s-is, r-is, t-is) (merges .crossed);
     }
 

@@ -12,6 +12,7 @@ use lib.Dec.{ltb}
 use lib.IntN.{ℤ, pos, negsuc, negℤ, natAbs, _+ℤ_, pos-ne-negsuc}
 use Rattle.words.specs.Words.{be, bytes}
 use Rattle.words.specs.Signed.{signed}
+use Rattle.words.proofs.Wraps.{subℕ-cases}
 use Rattle.objects.specs.Movement as M
 use Rattle.record.specs.Record.{decodeOf}
 use Rattle.codes.specs.Codes.{tooShort, inMasks, masksHold}
@@ -19,7 +20,6 @@ use Rattle.codes.specs.Fields.{spaceCodeOf, spaceCountOf}
 use Rattle.alike.specs.Alike.{Fits, SpacesBy}
 use Rattle.alike.proofs.Alike.{count-short, count-long, and-true, in-byte}
 use Rattle.merged.specs.Merged.{mayMerge, Command, calling, thenCalling, Good, codeOver, Spaces, MergedCalls, Length, bytes6, bytes16, FitsIn, spaceBlock, spaceCommand, least24}
-use Rattle.merged.proofs.Movement.{by-order}
 use Rattle.merged.proofs.Calls.{two-calls-or-one, good-small, good-place}
 
 -- ---- the blocks
@@ -53,7 +53,7 @@ pub two-blocks-or-one : (i j l : Length) (c : M.Code) (a b : ℤ) (rec p0 p1 sen
     let z = spaceCommand l c (a +ℤ b) sent-z received-z in
     let r = calling x rec p0 p1 in
     let s = thenCalling y r in
-    Good r → Good s → MergedCalls a b p0 p1 y z r s (calling z rec p0 p1)
+    Good r → Good s → MergedCalls a b p0 p1 x y z r s (calling z rec p0 p1)
 two-blocks-or-one i j l c a b rec p0 p1 sent-x received-x sent-y received-y sent-z received-z w f g h =
     two-calls-or-one c a b rec p0 p1 _ _ _ w (host-spaces i c a sent-x received-x f) (host-spaces j c b sent-y received-y g) (host-spaces l c (a +ℤ b) sent-z received-z h)
 
@@ -61,8 +61,8 @@ two-blocks-or-one i j l c a b rec p0 p1 sent-x received-x sent-y received-y sent
 
 sum-below : (a b : ℤ) → natAbs a < 2 ^ 28 → natAbs b < 2 ^ 28 → Fits 63 (a +ℤ b)
 sum-below (pos m) (pos n) h k = omega arith
-sum-below (pos m) (negsuc n) h k = by-order (λ (z : ℤ). Fits 63 z) m (suc n) (λ l. omega arith) (λ l. omega arith)
-sum-below (negsuc m) (pos n) h k = by-order (λ (z : ℤ). Fits 63 z) n (suc m) (λ l. omega arith) (λ l. omega arith)
+sum-below (pos m) (negsuc n) h k = subℕ-cases (λ (z : ℤ). Fits 63 z) m (suc n) (λ l. omega arith) (λ l. omega arith)
+sum-below (negsuc m) (pos n) h k = subℕ-cases (λ (z : ℤ). Fits 63 z) n (suc m) (λ l. omega arith) (λ l. omega arith)
 sum-below (negsuc m) (negsuc n) h k = omega arith
 
 -- of two that are GOOD the sum always fits sixteen bytes
@@ -120,4 +120,4 @@ goes-on-back rec p0 p1 sent-x received-x sent-y received-y g h =
     omega (arith, back-by (decodeOf rec .position) (decodeOf (r .rec) .position) there, back-by (decodeOf (r .rec) .position) (decodeOf (s .rec) .position) on)
   where
     back-by : (p q : ℕ) → pos q ≡ pos p +ℤ least24 → q + 2 ^ 23 ≡ p
-    back-by p q = by-order (λ (z : ℤ). pos q ≡ z → q + 2 ^ 23 ≡ p) p (2 ^ 23) (λ l e. absurd (pos-ne-negsuc q _ e)) (λ l e. let z : q ≡ p - 2 ^ 23 = ap natAbs e in omega arith)
+    back-by p q = subℕ-cases (λ (z : ℤ). pos q ≡ z → q + 2 ^ 23 ≡ p) p (2 ^ 23) (λ l e. absurd (pos-ne-negsuc q _ e)) (λ l e. let z : q ≡ p - 2 ^ 23 = ap natAbs e in omega arith)

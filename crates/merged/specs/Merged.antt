@@ -1,11 +1,11 @@
 -- Q-12, "Two moves or one": which two SPACEs may be merged, and what one in their place leaves; over objects, and as calls on bytes.
 -- That it leaves this: proofs/Movement.antt, proofs/Calls.antt. That others may not be merged: proofs/Cases.antt.
 -- Assumes nothing: these are definitions.
-use Prim.Native.Nat.{ℕ, zero, suc, _+_, _-_, _*_, _^_, _<_, min}
+use Prim.Native.Nat.{ℕ, zero, suc, _+_, _-_, _*_, _^_, _≤_, _<_, min}
 use mathlib.Core.Path.{_≡_}
 use mathlib.Core.Bool.{Bool, true, false, _&&_, _||_}
 use mathlib.Core.List.{List}
-use lib.IntN.{ℤ, pos, negsuc, _+ℤ_}
+use lib.IntN.{ℤ, pos, negsuc, _+ℤ_, natAbs}
 use Rattle.answers.specs.Answers.{answered}
 use Rattle.objects.specs.Object.{Object}
 use Rattle.objects.specs.Movement as M
@@ -69,6 +69,14 @@ following M.edge m n = m
 abbrev pub inRow : M.Move → M.Move → M.Move
 inRow m n = following (m .why) m n
 
+-- one way, by the residue of the one it is told which of the two stopped: at most all of b is left, as the second left it; or more, as the first left it
+-- and all of b
+pub record ToldBy (c : M.Code) (a b : ℤ) (p : ℕ) (xs : List Object) : Type 0 where
+  pub second-left : Done (M.space c a p xs) → M.residue (a +ℤ b) (M.space c (a +ℤ b) p xs) ≡ M.residue b (second c a b p xs)
+  pub most : Done (M.space c a p xs) → natAbs (M.residue (a +ℤ b) (M.space c (a +ℤ b) p xs)) ≤ natAbs b
+  pub first-left : (Done (M.space c a p xs) → ⊥) → M.residue (a +ℤ b) (M.space c (a +ℤ b) p xs) ≡ M.residue a (M.space c a p xs) +ℤ b
+  pub more : (Done (M.space c a p xs) → ⊥) → natAbs b < natAbs (M.residue (a +ℤ b) (M.space c (a +ℤ b) p xs))
+
 -- ---- as calls on bytes
 
 -- a command block, with the buffers that it is lent
@@ -105,11 +113,11 @@ pub record Spaces (c : M.Code) (k : ℤ) (x : Command) : Type 0 where
 abbrev pub leaving : Result → ℕ → Command → List ℕ → List ℕ → Result
 leaving s n x p0 p1 = result (answered (s .answer .status) 0 n) (s .rec) (lending x p0 p1)
 
--- of two calls on the same record and partitions, x and then y, which left r and then s; and of one, z, which left t
-pub record MergedCalls (a b : ℤ) (p0 p1 : List ℕ) (y z : Command) (r s t : Result) : Type 0 where
+-- of two calls, x and then y, which left r and then s; and of one, z, on the same record and partitions as x, which left t
+pub record MergedCalls (a b : ℤ) (p0 p1 : List ℕ) (x y z : Command) (r s t : Result) : Type 0 where
   pub good : Good t
   pub one : t ≡ leaving s (t .answer .crossed) z p0 p1
-  pub two : s ≡ leaving s (s .answer .crossed) y p0 p1
+  pub two : (r ≡ leaving r (r .answer .crossed) x p0 p1) × (s ≡ leaving s (s .answer .crossed) y p0 p1)
   pub crossed : Adds a b (r .answer .crossed) (s .answer .crossed) (t .answer .crossed)
 
 -- of a first, x, that is not GOOD and left r: the one has its answer and, but for the sense, its record

@@ -8,7 +8,7 @@ use mathlib.Core.Bool.{Bool, true, false, not, cond}
 use mathlib.Core.List.{List}
 use lib.Dec.{T, ltb, ltb→lt, nltb→le}
 use lib.ListN.{drop}
-use lib.IntN.{ℤ, pos, negsuc, _-ℤ_, negℤ, subℕ}
+use lib.IntN.{ℤ, pos, negsuc, _-ℤ_, negℤ, subℕ, natAbs}
 use Rattle.objects.specs.Object.{Object}
 use Rattle.objects.specs.Movement.{Code, done, walk, before, ahead, astern, space, residue}
 use Rattle.objects.proofs.Walk.{counted-le, walk-done}
@@ -42,6 +42,11 @@ left-back n (suc c) h = go (decLe (suc c) n)
     go : Dec (suc c ≤ n) → subℕ (suc c) (suc n) ≡ negℤ (pos (suc n - suc c))
     go (yes k) = sub-neg (suc c) (suc n) (omega arith)
     go (no k) = sub-pos (suc c) (suc n) (omega arith) ∙ both-zero (suc c - suc n) (suc n - suc c) (omega arith) (omega arith)
+
+-- turned round, a number is as large
+pub size-back : (n : ℕ) → natAbs (negℤ (pos n)) ≡ n
+size-back zero = refl
+size-back (suc n) = refl
 
 -- toward the end of data
 pub residue-on : (c : Code) (n p : ℕ) (xs : List Object)
