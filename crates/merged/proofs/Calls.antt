@@ -6,10 +6,11 @@ use mathlib.Core.Path.{_≡_, refl, sym, ap, ap₂, _∙_, subst}
 use mathlib.Core.Bool.{Bool, true, false, cond, _&&_}
 use mathlib.Core.Option.{Option, none, some}
 use mathlib.Core.List.{List}
-use lib.IntN.{ℤ, pos, negsuc, negℤ, natAbs, _+ℤ_, _-ℤ_, +ℤ-idl}
+use lib.IntN.{ℤ, pos, negsuc, negℤ, natAbs, _+ℤ_, _-ℤ_, +ℤ-idl, +ℤ-idr}
 use borrow.Author.Tests.{lt-ltb, eqb-true, eqb-false}
 use lib.Dec.{eqb}
 use lib.ListN.{length}
+use Rattle.words.specs.Words.{bytes}
 use Rattle.answers.specs.Answers.{recordFault, answered, first}
 use Rattle.answers.proofs.First.{not-both}
 use Rattle.objects.specs.Object.{Object}
@@ -18,7 +19,7 @@ use Rattle.objects.proofs.Walk.{went, still}
 use Rattle.image.specs.Image.{count}
 use Rattle.image.proofs.Objects.{length-objects}
 use Rattle.sense.specs.declared.Sense.{Sense}
-use Rattle.sense.specs.Sense.{notReady, mediumNotPresent, unqualified, emptySense}
+use Rattle.sense.specs.Sense.{notReady, mediumNotPresent, unqualified, senseBytes, told, emptySense}
 use Rattle.record.specs.declared.drive.Drive.{Drive}
 use Rattle.record.specs.Record.{noAttention, decodeOf, encodeOf, wellRecord, withSense}
 use Rattle.commands.specs.Act.{Seen, at, filemarkMet, endMet, beginningMet, spaceTells, movement}
@@ -31,7 +32,7 @@ use Rattle.commands.proofs.Faultless.{inside, fault-free, back, kept-whole}
 use Rattle.history.specs.History.{cartridge, isGood}
 use Rattle.history.specs.Demand3.{Mounted}
 use Rattle.alike.proofs.Moves.{spaceStop, spaced-tests, Goes, left, landed, goes-left, tells-none, standing, stands, stays-mounted, current, servedCode, spaced-goes, spaced-passes, space-mounted}
-use Rattle.merged.specs.Merged.{atLeast0, atMost0, oneWay, mayMerge, second, Done, following, Command, lending, calling, thenCalling, Good, codeOver, Spaces, leaving, MergedCalls, StopsAlike}
+use Rattle.merged.specs.Merged.{atLeast0, atMost0, oneWay, mayMerge, second, Done, following, Command, lending, calling, thenCalling, Good, codeOver, Spaces, leaving, MergedCalls, butResidue, StopsAlike}
 use Rattle.merged.proofs.OneWay.{in-row-early, one-way, both-or-none, all-moved, done-far}
 use Rattle.merged.proofs.Blocks.{blocks-place}
 use Rattle.merged.proofs.Movement.{two-or-one, comes-home}
@@ -274,6 +275,24 @@ told-early v j k m n = by (m .why) j k refl
     by M.edge (negsuc p) (pos q) e = rw e refl
     by M.edge (negsuc p) (negsuc q) e = rw e refl
 
+-- and what is told of it one way is the same but for the residue: the one goes the same way, since a first by 0 is done
+told-alike : (v : Seen) (a b : ℤ) (m : M.Move) → oneWay a b ≡ true → (a ≡ pos 0 → ⊥) → (Done m → ⊥) → butResidue (keptOf (spaceTells v (a +ℤ b) m)) ≡ butResidue (keptOf (spaceTells v a m))
+unfolding oneWay atLeast0 atMost0 spaceTells keptOf senseBytes bytes told
+told-alike v a b m w z n = by (m .why) refl
+  where
+    edge : (i j : ℤ) → (i ≡ pos 0 → ⊥) → oneWay i j ≡ true → m .why ≡ M.edge → butResidue (keptOf (spaceTells v (i +ℤ j) m)) ≡ butResidue (keptOf (spaceTells v i m))
+    edge (pos p) (pos q) h k e = rw e refl
+    edge (pos zero) (negsuc q) h k e = absurd (h refl)
+    edge (pos (suc p)) (negsuc q) h k e = absurd (not-both (sym k))
+    edge (negsuc p) (pos zero) h k e = rw (+ℤ-idr (negsuc p)) refl
+    edge (negsuc p) (pos (suc q)) h k e = absurd (not-both (sym k))
+    edge (negsuc p) (negsuc q) h k e = rw e refl
+
+    by : (y : M.Why) → m .why ≡ y → butResidue (keptOf (spaceTells v (a +ℤ b) m)) ≡ butResidue (keptOf (spaceTells v a m))
+    by M.done e = absurd (n e)
+    by M.marked e = rw e refl
+    by M.edge e = edge a b z w e
+
 unstopped-mounted : (rec p0 p1 : List ℕ) → spaceStop rec p0 p1 ≡ none → Mounted rec (cartridge p0 p1)
 unstopped-mounted rec p0 p1 h = go (wellRecord rec && inserted d p0 p1) (eqb (d .attention) noAttention) (eqb (d .loaded) 0) refl refl refl h
   where
@@ -318,6 +337,7 @@ stops-alike c a b rec p0 p1 x z w sx sz n = go (spaceStop rec p0 p1) refl
         record {
           answer = ap (λ (u : Result). u .answer) t-is ∙ sym (ap (λ (u : Result). u .answer) r-is);
           record-but-sense = λ k. ap (λ (u : Result). withSense (decodeOf (u .rec)) k) t-is ∙ sym (ap (λ (u : Result). withSense (decodeOf (u .rec)) k) r-is);
+          sense-but-residue = ap (λ (u : Result). butResidue (decodeOf (u .rec) .sense)) t-is ∙ sym (ap (λ (u : Result). butResidue (decodeOf (u .rec) .sense)) r-is);
           one = ap (λ (u : Result). u .lent) t-is;
           two = ap (λ (u : Result). u .lent) r-is;
         }
@@ -333,6 +353,11 @@ stops-alike c a b rec p0 p1 x z w sx sz n = go (spaceStop rec p0 p1) refl
         record {
           answer = ap (λ (u : Result). u .answer) t-is ∙ ap (λ (i : ℕ). answered i 0 (m .distance)) (told-early v (a +ℤ b) a m early) ∙ sym (ap (λ (u : Result). u .answer) r-is);
           record-but-sense = λ k. ap (λ (u : Result). withSense (decodeOf (u .rec)) k) t-is ∙ ap (λ (f : Drive). withSense f k) (read (spaceTells v (a +ℤ b) m)) ∙ sym (ap (λ (u : Result). withSense (decodeOf (u .rec)) k) r-is ∙ ap (λ (f : Drive). withSense f k) (read (spaceTells v a m)));
+          sense-but-residue =
+              ap (λ (u : Result). butResidue (decodeOf (u .rec) .sense)) t-is
+              ∙ ap (λ (f : Drive). butResidue (f .sense)) (read (spaceTells v (a +ℤ b) m))
+              ∙ told-alike v a b m w (λ e. early (ap (λ (k : ℤ). M.space c k (d .position) (v .objects) .why) e ∙ ap (λ (u : M.Move). u .why) (still c (d .position) (v .objects)))) early
+              ∙ sym (ap (λ (u : Result). butResidue (decodeOf (u .rec) .sense)) r-is ∙ ap (λ (f : Drive). butResidue (f .sense)) (read (spaceTells v a m)));
           one = ap (λ (u : Result). u .lent) t-is;
           two = ap (λ (u : Result). u .lent) r-is;
         }

@@ -4,8 +4,9 @@
 use Prim.Native.Nat.{ℕ, zero, suc, _+_, _-_, _*_, _^_, _≤_, _<_, min}
 use mathlib.Core.Path.{_≡_}
 use mathlib.Core.Bool.{Bool, true, false, _&&_, _||_}
-use mathlib.Core.List.{List}
+use mathlib.Core.List.{List, _++_}
 use lib.IntN.{ℤ, pos, negsuc, _+ℤ_, natAbs}
+use lib.ListN.{take, drop}
 use Rattle.answers.specs.Answers.{answered}
 use Rattle.objects.specs.Object.{Object}
 use Rattle.objects.specs.Movement as M
@@ -120,10 +121,15 @@ pub record MergedCalls (a b : ℤ) (p0 p1 : List ℕ) (x y z : Command) (r s t :
   pub two : (r ≡ leaving r (r .answer .crossed) x p0 p1) × (s ≡ leaving s (s .answer .crossed) y p0 p1)
   pub crossed : Adds a b (r .answer .crossed) (s .answer .crossed) (t .answer .crossed)
 
--- of a first, x, that is not GOOD and left r: the one has its answer and, but for the sense, its record
+-- a sense but for its residue: without byte 0 (VALID) and bytes 3 to 6 (information)
+abbrev pub butResidue : List ℕ → List ℕ
+butResidue b = take 2 (drop 1 b) ++ drop 7 b
+
+-- of a first, x, that is not GOOD and left r: the one has its answer and, but for the residue, its record
 pub record StopsAlike (p0 p1 : List ℕ) (x z : Command) (r t : Result) : Type 0 where
   pub answer : t .answer ≡ r .answer
   pub record-but-sense : (b : List ℕ) → withSense (decodeOf (t .rec)) b ≡ withSense (decodeOf (r .rec)) b
+  pub sense-but-residue : butResidue (decodeOf (t .rec) .sense) ≡ butResidue (decodeOf (r .rec) .sense)
   pub one : t .lent ≡ lending z p0 p1
   pub two : r .lent ≡ lending x p0 p1
 
