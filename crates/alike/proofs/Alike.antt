@@ -144,7 +144,7 @@ module _ (n : ℕ) where
       signed-high (2 ^ n) (2 ^ suc n - suc m) (omega (arith, pow-suc 2 n)) ∙ ap negsuc e
 
 -- so the count of SPACE, of either length, is what the host wrote
-pub count-short : (code : ℕ) (k : ℤ) → Fits 23 k → spaceCountOf (spaceShort code k) ≡ k
+pub count-short : (code : ℕ) (k : ℤ) → Fits24 k → spaceCountOf (spaceShort code k) ≡ k
 unfolding spaceCountOf
 count-short code k h = ap (signed (2 ^ 23)) (three code _ (in-bits 23 k h)) ∙ read-back 23 k h
 

@@ -79,9 +79,6 @@ module _ (rec cmd p0 p1 sent received : List ℕ) where
       by e q0 q1 = result (answered (statusOf (e .tells)) (e .carried) (e .crossed)) (encodeOf (withSense (e .drive) (keptOf (e .tells)))) (lent cmd q0 q1 sent (over received 0 (e .received)))
 
   -- GOOD: no test stopped it, and it tells nothing
-  abbrev Good : Type 0
-  Good = isGood (commandCall rec x .answer) ≡ true
-
   pub passed : isGood (commandCall rec (lent cmd p0 p1 sent received) .answer) ≡ true → (first (commandTests rec (lent cmd p0 p1 sent received)) ≡ none) × Well (decodeOf rec) p0 p1
   passed g = go (ended rec cmd p0 p1 sent received)
     where

@@ -32,7 +32,7 @@ use Rattle.commands.proofs.Faultless.{inside, fault-free, back, kept-whole}
 use Rattle.history.specs.History.{cartridge, isGood}
 use Rattle.history.specs.Demand3.{Mounted}
 use Rattle.alike.proofs.Moves.{spaceStop, spaced-tests, Goes, left, landed, goes-left, tells-none, standing, stands, stays-mounted, current, servedCode, spaced-goes, spaced-passes, space-mounted}
-use Rattle.merged.specs.Merged.{atLeast0, atMost0, oneWay, mayMerge, second, Done, following, Command, lending, calling, thenCalling, Good, codeOver, Spaces, leaving, MergedCalls, butResidue, StopsAlike}
+use Rattle.merged.specs.Merged.{atLeast0, atMost0, oneWay, mayMerge, second, Done, following, Command, lending, calling, thenCalling, Good, codeOver, SpaceOver, leaving, MergedCalls, butResidue, StopsAlike}
 use Rattle.merged.proofs.OneWay.{in-row-early, one-way, both-or-none, all-moved, done-far}
 use Rattle.merged.proofs.Blocks.{blocks-place}
 use Rattle.merged.proofs.Movement.{two-or-one, comes-home}
@@ -49,17 +49,17 @@ none-done : (v : Seen) (k : ℤ) (m : M.Move) → spaceTells v k m ≡ none → 
 unfolding spaceTells
 none-done v k m h = go (m .why) refl
   where
-    told : Option Sense → Bool
-    told none = false
-    told (some s) = true
+    says : Option Sense → Bool
+    says none = false
+    says (some s) = true
 
     edge : (i : ℤ) → m .why ≡ M.edge → spaceTells v i m ≡ none → ⊥
-    edge (pos n) f g = not-both (ap told (rw f at g))
-    edge (negsuc n) f g = not-both (ap told (rw f at g))
+    edge (pos n) f g = not-both (ap says (rw f at g))
+    edge (negsuc n) f g = not-both (ap says (rw f at g))
 
     go : (y : M.Why) → m .why ≡ y → Done m
     go M.done e = e
-    go M.marked e = absurd (not-both (ap told (rw e at h)))
+    go M.marked e = absurd (not-both (ap says (rw e at h)))
     go M.edge e = absurd (edge k e h)
 
 movement-over : (c : M.Code) (k : ℤ) (p : ℕ) (xs : List Object) → movement (codeOver c) k p xs ≡ M.space c k p xs
@@ -71,7 +71,7 @@ served : (c : M.Code) → servedCode (codeOver c) ≡ true
 served M.blocks = refl
 served M.filemarks = refl
 
-module _ (c : M.Code) (k : ℤ) (rec p0 p1 : List ℕ) (x : Command) (s : Spaces c k x) where
+module _ (c : M.Code) (k : ℤ) (rec p0 p1 : List ℕ) (x : Command) (s : SpaceOver c k x) where
   abbrev d : Drive
   d = decodeOf rec
 
@@ -113,7 +113,7 @@ module _ (c : M.Code) (k : ℤ) (rec p0 p1 : List ℕ) (x : Command) (s : Spaces
 
 -- ---- another on what it left, if it is GOOD
 
-module _ (c : M.Code) (a b : ℤ) (rec p0 p1 : List ℕ) (x y : Command) (sx : Spaces c a x) (sy : Spaces c b y) (m : Mounted rec (cartridge p0 p1)) (e : Done (move c a rec p0 p1 x sx)) where
+module _ (c : M.Code) (a b : ℤ) (rec p0 p1 : List ℕ) (x y : Command) (sx : SpaceOver c a x) (sy : SpaceOver c b y) (m : Mounted rec (cartridge p0 p1)) (e : Done (move c a rec p0 p1 x sx)) where
   abbrev from : Drive
   from = decodeOf rec
 
@@ -153,7 +153,7 @@ module _ (c : M.Code) (a b : ℤ) (rec p0 p1 : List ℕ) (x y : Command) (sx : S
 -- ---- one in place of two
 
 -- "if SPACE .. by a and then by b both end GOOD and a + b fits the count, SPACE by a + b from the start ends GOOD at the same place"
-pub two-calls-or-one : (c : M.Code) (a b : ℤ) (rec p0 p1 : List ℕ) (x y z : Command) → mayMerge c a b ≡ true → Spaces c a x → Spaces c b y → Spaces c (a +ℤ b) z
+pub two-calls-or-one : (c : M.Code) (a b : ℤ) (rec p0 p1 : List ℕ) (x y z : Command) → mayMerge c a b ≡ true → SpaceOver c a x → SpaceOver c b y → SpaceOver c (a +ℤ b) z
     → let r = calling x rec p0 p1 in
     let s = thenCalling y r in
     Good r → Good s → MergedCalls a b p0 p1 x y z r s (calling z rec p0 p1)
@@ -175,7 +175,7 @@ two-calls-or-one c a b rec p0 p1 x y z w sx sy sz g h =
     }
 
 -- "so a followed by −a comes home when both are GOOD": the record is as it was but for the kept sense, which is empty now
-pub calls-home : (a : ℤ) (rec p0 p1 : List ℕ) (x y : Command) → Spaces M.blocks a x → Spaces M.blocks (negℤ a) y
+pub calls-home : (a : ℤ) (rec p0 p1 : List ℕ) (x y : Command) → SpaceOver M.blocks a x → SpaceOver M.blocks (negℤ a) y
     → let r = calling x rec p0 p1 in
     let s = thenCalling y r in
     Good r → Good s → (s .rec ≡ encodeOf (withSense (decodeOf rec) emptySense)) × (s .lent ≡ lending y p0 p1)
@@ -189,14 +189,14 @@ calls-home a rec p0 p1 x y sx sy g h =
 
 -- ---- of a GOOD one alone: its count is below 2^28, and over blocks it is how far the position moved
 
-pub good-small : (c : M.Code) (k : ℤ) (rec p0 p1 : List ℕ) (x : Command) → Spaces c k x → Good (calling x rec p0 p1) → natAbs k < 2 ^ 28
+pub good-small : (c : M.Code) (k : ℤ) (rec p0 p1 : List ℕ) (x : Command) → SpaceOver c k x → Good (calling x rec p0 p1) → natAbs k < 2 ^ 28
 good-small c k rec p0 p1 x s g =
     let d = decodeOf rec in
     let e = good-done c k rec p0 p1 x s g in
     let far = ap (λ (u : Result). u .answer .crossed) (lands c k rec p0 p1 x s (good-mounted c k rec p0 p1 x s g) e) in
     omega (arith, far, done-far c k (d .position) (current d p0 p1 .objects) e, call-fits rec (lending x p0 p1) .1)
 
-pub good-place : (k : ℤ) (rec p0 p1 : List ℕ) (x : Command) → Spaces M.blocks k x → let r = calling x rec p0 p1 in Good r → pos (decodeOf (r .rec) .position) ≡ pos (decodeOf rec .position) +ℤ k
+pub good-place : (k : ℤ) (rec p0 p1 : List ℕ) (x : Command) → SpaceOver M.blocks k x → let r = calling x rec p0 p1 in Good r → pos (decodeOf (r .rec) .position) ≡ pos (decodeOf rec .position) +ℤ k
 unfolding withSense
 good-place k rec p0 p1 x s g =
     let d = decodeOf rec in
@@ -230,7 +230,7 @@ tells-on v a b m n w k z = go (n .why) refl
     go M.edge y = at-edge a b refl refl w y
 
 -- both at least 0 or both at most 0, and the first GOOD: the one leaves what the second leaves, GOOD or not, its sense and residue too; what they cross adds up
-pub one-way-calls : (c : M.Code) (a b : ℤ) (rec p0 p1 : List ℕ) (x y z : Command) → oneWay a b ≡ true → Spaces c a x → Spaces c b y → Spaces c (a +ℤ b) z
+pub one-way-calls : (c : M.Code) (a b : ℤ) (rec p0 p1 : List ℕ) (x y z : Command) → oneWay a b ≡ true → SpaceOver c a x → SpaceOver c b y → SpaceOver c (a +ℤ b) z
     → let r = calling x rec p0 p1 in
     let s = thenCalling y r in
     Good r → (calling z rec p0 p1 ≡ leaving s (r .answer .crossed + s .answer .crossed) z p0 p1) × (s ≡ leaving s (s .answer .crossed) y p0 p1)
@@ -249,7 +249,7 @@ one-way-calls c a b rec p0 p1 x y z w sx sy sz g =
     (t-is ∙ ap (λ (u : Option Sense). left d (n .to) u (f .distance + n .distance) (lending z p0 p1)) tells ∙ sym (ap₂ (λ (q u : Result). leaving u (q .answer .crossed + u .answer .crossed) z p0 p1) (lands c a rec p0 p1 x sx m e) s-is), s-is ∙ sym (ap (λ (u : Result). leaving u (u .answer .crossed) y p0 p1) s-is))
 
 -- and whatever the first's end: the one is GOOD exactly if both are
-pub good-both : (c : M.Code) (a b : ℤ) (rec p0 p1 : List ℕ) (x y z : Command) → oneWay a b ≡ true → Spaces c a x → Spaces c b y → Spaces c (a +ℤ b) z
+pub good-both : (c : M.Code) (a b : ℤ) (rec p0 p1 : List ℕ) (x y z : Command) → oneWay a b ≡ true → SpaceOver c a x → SpaceOver c b y → SpaceOver c (a +ℤ b) z
     → Good (calling z rec p0 p1) → Good (calling x rec p0 p1) × Good (thenCalling y (calling x rec p0 p1))
 unfolding withSense
 good-both c a b rec p0 p1 x y z w sx sy sz g =
@@ -310,7 +310,7 @@ unstopped-mounted rec p0 p1 h = go (wellRecord rec && inserted d p0 p1) (eqb (d 
     go true true false e f g q = record { no-fault = e; loaded = inside d p0 p1 (fault-free rec p0 p1 e .cart) (eqb-false (d .loaded) 0 g) .is; no-attention = eqb-true (d .attention) noAttention f }
 
 -- it stops the one too, at the same place and after as many objects; of the record the sense alone differs, by its residue
-pub stops-alike : (c : M.Code) (a b : ℤ) (rec p0 p1 : List ℕ) (x z : Command) → oneWay a b ≡ true → Spaces c a x → Spaces c (a +ℤ b) z
+pub stops-alike : (c : M.Code) (a b : ℤ) (rec p0 p1 : List ℕ) (x z : Command) → oneWay a b ≡ true → SpaceOver c a x → SpaceOver c (a +ℤ b) z
     → (Good (calling x rec p0 p1) → ⊥) → StopsAlike p0 p1 x z (calling x rec p0 p1) (calling z rec p0 p1)
 unfolding withSense
 stops-alike c a b rec p0 p1 x z w sx sz n = go (spaceStop rec p0 p1) refl

@@ -22,8 +22,7 @@ use Rattle.commands.specs.Act.{offered, goesDown, spaceTells, movement, spacing
 use Rattle.commands.specs.Tests.{tests, fieldError, taken, replyLength, needed}
 use Rattle.commands.specs.Step.{statusOf, keptOf, acted, unless, step}
 use Rattle.commands.specs.Call.{Result, looksAt, seenOf, seen, inserted, laidOut, applied, stepOf, called, commandCall}
-use Rattle.alike.specs.Alike.{Fits}
-use Rattle.merged.specs.Merged.{second, Done, Merges, Command, calling, thenCalling, Good, Spaces, bytes6, spaceCommand}
+use Rattle.merged.specs.Merged.{second, Done, Merges, Command, calling, thenCalling, Good, SpaceOver, bytes6, FitsIn, spaceCommand}
 use Rattle.merged.proofs.Hosts.{host-spaces}
 
 -- ---- over objects
@@ -99,10 +98,10 @@ unfolding E be bytes signed M.walk M.before M.ahead M.astern M.space fitting put
 calls-apart = (refl, refl, refl, refl, refl)
 
 -- so of the calls there is no law for mixed signs over filemarks either
-pub calls-not-mixed : ((a b : ℤ) (rec p0 p1 : List ℕ) (x y z : Command) → Spaces M.filemarks a x → Spaces M.filemarks b y → Spaces M.filemarks (a +ℤ b) z
+pub calls-not-mixed : ((a b : ℤ) (rec p0 p1 : List ℕ) (x y z : Command) → SpaceOver M.filemarks a x → SpaceOver M.filemarks b y → SpaceOver M.filemarks (a +ℤ b) z
     → Good (calling x rec p0 p1) → Good (thenCalling y (calling x rec p0 p1)) → calling z rec p0 p1 .rec ≡ thenCalling y (calling x rec p0 p1) .rec) → ⊥
 calls-not-mixed law =
     let m = calls-apart in
-    let spaces : (k : ℤ) → Fits 23 k → Spaces M.filemarks k (over k) = λ k h. host-spaces bytes6 M.filemarks k [] [] h in
+    let spaces : (k : ℤ) → FitsIn bytes6 k → SpaceOver M.filemarks k (over k) = λ k h. host-spaces bytes6 M.filemarks k [] [] h in
     let e : instead .rec ≡ back .rec = law (pos 1) (negsuc 0) beginning E [] (over (pos 1)) (over (negsuc 0)) (over (pos 0)) (spaces (pos 1) (omega arith)) (spaces (negsuc 0) (omega arith)) (spaces (pos 0) (omega arith)) (m .0) (m .1) in
     omega (arith, ap (λ (r : List ℕ). decodeOf r .position) e, m .2, m .4)

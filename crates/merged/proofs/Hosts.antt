@@ -19,7 +19,7 @@ use Rattle.codes.specs.Codes.{tooShort, inMasks, masksHold}
 use Rattle.codes.specs.Fields.{spaceCodeOf, spaceCountOf}
 use Rattle.alike.specs.Alike.{Fits, SpacesBy}
 use Rattle.alike.proofs.Alike.{count-short, count-long, and-true, in-byte}
-use Rattle.merged.specs.Merged.{mayMerge, Command, calling, thenCalling, Good, codeOver, Spaces, MergedCalls, Length, bytes6, bytes16, FitsIn, spaceBlock, spaceCommand, least24}
+use Rattle.merged.specs.Merged.{mayMerge, Command, calling, thenCalling, Good, codeOver, SpaceOver, MergedCalls, Length, bytes6, bytes16, FitsIn, spaceBlock, spaceCommand, least24}
 use Rattle.merged.proofs.Calls.{two-calls-or-one, good-small, good-place}
 
 -- ---- the blocks
@@ -43,7 +43,7 @@ host-within bytes6 M.filemarks k = simp (in-byte, and-true) refl
 host-within bytes16 M.blocks k = simp (in-byte, and-true) refl
 host-within bytes16 M.filemarks k = simp (in-byte, and-true) refl
 
-pub host-spaces : (l : Length) (c : M.Code) (k : ℤ) (sent received : List ℕ) → FitsIn l k → Spaces c k (spaceCommand l c k sent received)
+pub host-spaces : (l : Length) (c : M.Code) (k : ℤ) (sent received : List ℕ) → FitsIn l k → SpaceOver c k (spaceCommand l c k sent received)
 host-spaces l c k sent received h = record { by = host-by l c k h; whole = host-whole l c k; within = host-within l c k }
 
 -- each of the three of six bytes or of sixteen, as long as its count fits
@@ -66,9 +66,9 @@ sum-below (negsuc m) (pos n) h k = subℕ-cases (λ (z : ℤ). Fits 63 z) n (suc
 sum-below (negsuc m) (negsuc n) h k = omega arith
 
 -- of two that are GOOD the sum always fits sixteen bytes
-pub sum-fits : (c : M.Code) (a b : ℤ) (rec p0 p1 : List ℕ) (x y : Command) → Spaces c a x → Spaces c b y
+pub sum-fits : (c : M.Code) (a b : ℤ) (rec p0 p1 : List ℕ) (x y : Command) → SpaceOver c a x → SpaceOver c b y
     → let r = calling x rec p0 p1 in
-    Good r → Good (thenCalling y r) → Fits 63 (a +ℤ b)
+    Good r → Good (thenCalling y r) → FitsIn bytes16 (a +ℤ b)
 sum-fits c a b rec p0 p1 x y sx sy g h =
     let r = calling x rec p0 p1 in
     sum-below a b (good-small c a rec p0 p1 x sx g) (good-small c b (r .rec) (r .lent .part0) (r .lent .part1) y sy h)
@@ -79,11 +79,11 @@ opposite-below (pos (suc n)) h = omega arith
 opposite-below (negsuc n) h = omega arith
 
 -- so does the opposite of one that is GOOD
-pub opposite-fits : (c : M.Code) (a : ℤ) (rec p0 p1 : List ℕ) (x : Command) → Spaces c a x → Good (calling x rec p0 p1) → Fits 63 (negℤ a)
+pub opposite-fits : (c : M.Code) (a : ℤ) (rec p0 p1 : List ℕ) (x : Command) → SpaceOver c a x → Good (calling x rec p0 p1) → FitsIn bytes16 (negℤ a)
 opposite-fits c a rec p0 p1 x s g = opposite-below a (good-small c a rec p0 p1 x s g)
 
 -- 24 bits hold the opposite of each of their counts but the least
-pub opposite-fits-24 : (a : ℤ) → Fits 23 a → a ≢ least24 → Fits 23 (negℤ a)
+pub opposite-fits-24 : (a : ℤ) → FitsIn bytes6 a → a ≢ least24 → FitsIn bytes6 (negℤ a)
 opposite-fits-24 (pos zero) h n = omega arith
 opposite-fits-24 (pos (suc m)) h n = omega arith
 opposite-fits-24 (negsuc m) h n = go (decLe (2 ^ 23) (suc m))

@@ -1,5 +1,5 @@
 -- Q-12, "Two moves or one": which two SPACEs may be merged, and what one in their place leaves; over objects, and as calls on bytes.
--- That it leaves this: proofs/Movement.antt, proofs/Calls.antt. That others may not be merged: proofs/Cases.antt.
+-- That it leaves this: over objects in proofs/Movement.antt, as calls in proofs/Calls.antt and Hosts.antt. That others may not be merged: proofs/Cases.antt.
 -- Assumes nothing: these are definitions.
 use Prim.Native.Nat.{ℕ, zero, suc, _+_, _-_, _*_, _^_, _≤_, _<_, min}
 use mathlib.Core.Path.{_≡_}
@@ -15,7 +15,7 @@ use Rattle.codes.specs.Codes.{tooShort, masksHold}
 use Rattle.commands.specs.Act.{overBlocks, overFilemarks}
 use Rattle.commands.specs.Call.{Lent, lent, Result, result, commandCall}
 use Rattle.history.specs.History.{isGood}
-use Rattle.alike.specs.Alike.{Fits, SpacesBy, spaceShort, spaceLong}
+use Rattle.alike.specs.Alike.{Fits, Fits24, SpacesBy, spaceShort, spaceLong}
 
 -- ---- which counts
 
@@ -105,7 +105,7 @@ codeOver M.blocks = overBlocks
 codeOver M.filemarks = overFilemarks
 
 -- SPACE over c by k, of six bytes or of sixteen; neither too short nor with a bit outside its masks
-pub record Spaces (c : M.Code) (k : ℤ) (x : Command) : Type 0 where
+pub record SpaceOver (c : M.Code) (k : ℤ) (x : Command) : Type 0 where
   pub by : SpacesBy (codeOver c) k (x .cmd)
   pub whole : tooShort (x .cmd) ≡ false
   pub within : masksHold (x .cmd) ≡ true
@@ -139,7 +139,7 @@ pub data Length : Type 0 where
   bytes6 bytes16 : Length
 
 abbrev pub FitsIn : Length → ℤ → Type 0
-FitsIn bytes6 k = Fits 23 k
+FitsIn bytes6 k = Fits24 k
 FitsIn bytes16 k = Fits 63 k
 
 abbrev pub spaceBlock : Length → M.Code → ℤ → List ℕ
