@@ -51,11 +51,12 @@ enum { STORMTOGGLE_GOOD = 0x00, STORMTOGGLE_CHECK_CONDITION = 0x02 };
  * docs/SCHEDULING.md.) */
 #define STORMTOGGLE_CROSSED(answer) ((uint32_t)((uint64_t)(answer) >> 36))
 
-/* How long a partition's image, and a block in it, may be. */
+/* How long a partition's image, and a block in it, may be; and the block length that a mount sets. */
 enum {
     STORMTOGGLE_SHORTEST_IMAGE = 64,
     STORMTOGGLE_LONGEST_IMAGE = 1073741824,
-    STORMTOGGLE_LARGEST_BLOCK = 65536
+    STORMTOGGLE_LARGEST_BLOCK = 65536,
+    STORMTOGGLE_MOUNTED_BLOCK_LENGTH = 32768
 };
 
 /* The drive record: how long it is, and where each field starts. The daemon keeps its bytes between calls and may show
@@ -95,8 +96,18 @@ enum { STORMTOGGLE_FILEMARK = 0x80, STORMTOGGLE_EOM = 0x40, STORMTOGGLE_ILI = 0x
 uint64_t stormtoggle_fresh(uint8_t *record, size_t record_len);
 
 /* Mounts a cartridge: one partition if the second slice is empty, else two. The record is then loaded, at partition 0
- * and position 0, with attention 28h, block length 0 and the empty sense. The partitions are only read.
- * Refusals 4, then 5, then 7 for either partition, then 6 for either. */
+ * and position 0, with attention 28h, block length 32,768 and the empty sense. The partitions are only read.
+ * Refusals 4, then 5, then 7 for either partition, then 6 for either.
+ *
+ * A drive so starts in fixed blocks, whatever its block length was before: only MODE SELECT sets another. (A fresh
+ * record has 0, which means variable; LOAD and an unload keep what is set.) Until it does
+ *   - READ and WRITE with FIXED are served, in blocks of 32,768 bytes: FIXED is no field error;
+ *   - a host that writes variable blocks is not stopped: WRITE without FIXED puts one block of the bytes that it asks
+ *     for, of any length that a block may have;
+ *   - SILI hides a block shorter than a READ asks for, and not one that is longer: ILI and a negative residue tell it;
+ *   - MODE SENSE tells 32,768, so a host whose driver takes its block length from there, as Linux's st does, writes
+ *     fixed blocks; st itself then refuses a transfer that is no multiple of 32,768 bytes, as GNU tar's of 10,240.
+ * docs/BLOCK_LENGTH.md tells what a host then does. */
 uint64_t stormtoggle_mount(uint8_t *record, size_t record_len, const uint8_t *p0, size_t p0_len, const uint8_t *p1,
                            size_t p1_len);
 

@@ -1,4 +1,4 @@
-/* record.c: fresh and mount held to document 01, called as a C daemon calls them. */
+/* record.c: fresh and mount held to documents 01 and 02, called as a C daemon calls them. */
 #define _DEFAULT_SOURCE
 #include "lend.h"
 #include "record.h"
@@ -6,7 +6,8 @@
 
 /* The thirty bytes as they must be, byte by byte. */
 static const uint8_t fresh_bytes[RECORD_BYTES] = {[3] = 0x29, [12] = 0x70, [19] = 0x0a};
-static const uint8_t mounted_bytes[RECORD_BYTES] = {[0] = 1, [1] = 1, [3] = 0x28, [12] = 0x70, [19] = 0x0a};
+static const uint8_t mounted_bytes[RECORD_BYTES] = {
+    [0] = 1, [1] = 1, [3] = 0x28, [8] = 0x00, [9] = 0x00, [10] = 0x80, [11] = 0x00, [12] = 0x70, [19] = 0x0a};
 static const size_t lengths_of_no_record[] = {0, 1, 12, RECORD_BYTES - 1, RECORD_BYTES + 1, 64, 256 + RECORD_BYTES};
 
 /* Well-formed records to start from. */
@@ -21,6 +22,7 @@ static const struct base {
     {"unloaded, 29h waits",
      {.attention = ATTENTION_FRESH, .block_length = 512, .sense = {0x70, 0x00, 0x06, [12] = 0x29}}},
     {"unloaded, block length 65,536", {.block_length = LARGEST_BLOCK, .sense = EMPTY_SENSE}},
+    {"unloaded, block length 32,768", {.block_length = MOUNTED_LENGTH, .sense = EMPTY_SENSE}},
     {"loaded, 1 partition", {1, 1, 0, ATTENTION_NONE, 2, 512, EMPTY_SENSE}},
     {"loaded, 2 partitions", {1, 2, 1, ATTENTION_MOUNTED, 0x01020304, LARGEST_BLOCK, {0x70, 0x00, 0x08, [13] = 0x05}}},
 };
@@ -59,7 +61,7 @@ static void fresh_by_length(void)
 static void fresh_of_any_bytes(void)
 {
     uint8_t record[RECORD_BYTES], *pattern = patterned(RECORD_BYTES);
-    struct drive fresh = fresh_drive();
+    struct drive fresh = fresh_drive(), mounted = mounted_drive(1);
     fresh_makes(pattern, "ill-formed bytes");
     fresh_makes(zeros, "zeros");
     memset(record, 0xff, RECORD_BYTES);
@@ -70,6 +72,8 @@ static void fresh_of_any_bytes(void)
     }
     lay_drive(record, &fresh);
     expect_bytes(record, fresh_bytes, RECORD_BYTES, "the oracle, fresh");
+    lay_drive(record, &mounted);
+    expect_bytes(record, mounted_bytes, RECORD_BYTES, "the oracle, mounted");
     free(pattern);
 }
 
@@ -123,6 +127,8 @@ static const struct row {
     {"unloaded, 29h", {0, 0, 0, ATTENTION_FRESH, 0, 0, {0}}, 0},
     {"unloaded, 27h", {0, 0, 0, 0x27, 0, 0, {0}}, BY_DRIVE},
     {"unloaded, 2Ah", {0, 0, 0, 0x2a, 0, 0, {0}}, BY_DRIVE},
+    {"unloaded, block length 1", {0, 0, 0, ATTENTION_FRESH, 0, 1, {0}}, 0},
+    {"unloaded, block length 32,768", {0, 0, 0, ATTENTION_FRESH, 0, MOUNTED_LENGTH, {0}}, 0},
     {"unloaded, block length 65,536", {0, 0, 0, ATTENTION_FRESH, 0, LARGEST_BLOCK, {0}}, 0},
     {"unloaded, block length 65,537", {0, 0, 0, ATTENTION_FRESH, 0, LARGEST_BLOCK + 1, {0}}, BY_DRIVE},
     {"unloaded, block length with its top bit", {0, 0, 0, ATTENTION_FRESH, 0, 0x80000000, {0}}, BY_DRIVE},
@@ -140,6 +146,7 @@ static const struct row {
     {"loaded, past every object", {1, 1, 0, ATTENTION_MOUNTED, 0xffffffff, 0, {0}}, BY_LOADED},
     {"loaded, 29h", {1, 1, 0, ATTENTION_FRESH, 0, 0, {0}}, BY_LOADED},
     {"loaded, 2Ah", {1, 1, 0, 0x2a, 0, 0, {0}}, BY_DRIVE},
+    {"loaded, block length 32,768", {1, 1, 0, ATTENTION_NONE, 0, MOUNTED_LENGTH, {0}}, BY_LOADED},
     {"loaded, block length 65,536", {1, 1, 0, ATTENTION_NONE, 0, LARGEST_BLOCK, {0}}, BY_LOADED},
     {"loaded, block length 65,537", {1, 1, 0, ATTENTION_NONE, 0, LARGEST_BLOCK + 1, {0}}, BY_DRIVE},
     {"loaded is 2", {2, 1, 0, ATTENTION_MOUNTED, 0, 0, {0}}, BY_DRIVE},

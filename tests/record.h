@@ -1,4 +1,4 @@
-/* record.h: the drive record in plain C, written from document 01 alone: laid, judged, made fresh and mounted. */
+/* record.h: the drive record in plain C, written from 01 and 02 alone: laid, judged, made fresh and mounted. */
 #ifndef RECORD_H
 #define RECORD_H
 
@@ -55,8 +55,8 @@ static inline struct drive fresh_drive(void)
 
 static inline struct drive mounted_drive(uint8_t partitions)
 {
-    return (struct drive){
-        .loaded = 1, .partitions = partitions, .attention = ATTENTION_MOUNTED, .sense = EMPTY_SENSE};
+    return (struct drive){.loaded = 1, .partitions = partitions, .attention = ATTENTION_MOUNTED,
+                          .block_length = MOUNTED_LENGTH, .sense = EMPTY_SENSE};
 }
 
 /* Whether loaded, partitions, current and position agree. How far the position may go, the cartridge says. */

@@ -2,6 +2,7 @@
  * random work. With the largest, bytes carried and zeroed come near 2^30, which takes 3 GiB of memory. */
 #define _DEFAULT_SOURCE
 #include "left_over.h"
+#include "mounted.h"
 #include "report.h"
 
 /* ---- sequences from a blank cartridge */
@@ -214,6 +215,8 @@ int main(int arguments, char **argument)
             run_merged();
         if (round % 8 == 0)
             run_near_end();
+        if (round % 8 == 4)
+            run_mounted();
         if (round % 16 == 0) {
             run_left_over();
             run_many_objects();

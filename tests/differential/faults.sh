@@ -2,8 +2,8 @@
 # faults.sh: shows that tests/differential/differential.c can fail: the run of check finds each slip that is seeded in
 # the model, or, where a store may not go, behind the library; those marked so, the run with the largest work. The slips
 # of the directory's check are shown to tests/differential/damage.c too, and some to it alone; those of the movement by
-# sixteen bytes come next, then those of end of data, those of the objects crossed, and last those of two moves or one,
-# which are seeded in the rule that holds the calls to each other.
+# sixteen bytes come next, then those of end of data, those of the objects crossed, those of two moves or one, which are
+# seeded in the rule that holds the calls to each other, and last those of the block length that a mount sets.
 # LIBRARY names another archive than the one that is built here from the sources.
 set -u
 cd "$(dirname "$0")/../.." || exit 2
@@ -191,4 +191,31 @@ slips+=(
     "a second by 0 changes nothing, the one ends as it does though the first was stopped"
 )
 show_from "$merged" "on two moves or one"
+
+# Slips of the block length that a mount sets and the other calls keep, each with the length that it leaves or takes.
+mounted=${#slips[@]}
+slips+=(
+    "fresh sets 32,768 too, and not 0"
+    "LOAD sets 32,768, whatever is selected"
+    "LOAD sets 0, also right behind the mount"
+    "an unload sets 0, also right behind the mount"
+    "an unload sets 32,768, whatever is selected"
+    "a mount sets 0, as 01 had it"
+    "a mount keeps what is set, 0 behind fresh and what was selected behind an unload"
+    "a mount sets 32,768 only where it was 0, and keeps what was selected"
+    "a mount of two partitions sets 0"
+    "a mount of one partition sets 0"
+    "a mount sets 65,536, the largest there is"
+    "a mount sets 512"
+    "a mount sets 32,767"
+    "a mount refused by 5 sets 32,768 on the loaded drive"
+    "a mount refused by 6 sets 32,768"
+    "a mount refused by 7 sets 32,768"
+    "MODE SELECT of 0 sets 32,768, as if 0 were no length"
+    "MODE SENSE tells 0 where 32,768 is set"
+    "SILI hides overlength with 32,768 as it does with 0, GOOD and no ILI"
+    "FIXED is a field error with 32,768, as if only MODE SELECT set one"
+    "a block of 32,768 fits by its data alone, without the four bytes of its entry"
+)
+show_from "$mounted" "on the block length of a mount"
 exit "$failed"

@@ -2,7 +2,7 @@
 #ifndef REACHED_H
 #define REACHED_H
 
-#include "crossed.h"
+#include "lengths.h"
 
 enum service { FRESH, BLANK, MOUNT, PROTECT, VIEW, A_COMMAND, SERVICES };
 static const char *const service_names[] = {"fresh", "blank", "mount", "protect", "view", "command"};
@@ -116,6 +116,7 @@ static inline void count_command(unsigned refusal, uint64_t answer)
     uint64_t crossed = count_crossing(block, refusal, told, record_before, record);
     crossings.just_before = crossed;
     count_sealed(block, refusal);
+    count_length(block, refusal, told, STORMTOGGLE_CARRIED(answer), record_before, record);
     if (refusal != 0) {
         reached.refused[block[0]]++;
         note_move(ONE_BYTE_SHORT, is_long_move(block[0]) && twins[COMMAND].length == BYTES_16 - 1);
@@ -141,6 +142,7 @@ static inline void count_command(unsigned refusal, uint64_t answer)
 static inline void count_reached(uint64_t answer)
 {
     unsigned refusal = latest.service == VIEW ? 0 : STORMTOGGLE_REFUSAL(answer);
+    look_at_source(record_before);
     reached.services[latest.service]++;
     reached.refusals[latest.service][refusal]++;
     reached.after_space[latest.service] += crossings.just_before > 0 && refusal == 0;
@@ -154,6 +156,11 @@ static inline void count_reached(uint64_t answer)
         count_command(refusal, answer);
     else
         crossings.just_before = 0;
+    if (latest.service == MOUNT && twins[RECORD].length == RECORD_BYTES)
+        count_mount(refusal, record_before, bytes_of(RECORD, MODEL));
+    if (latest.service == FRESH)
+        mounts.source = FROM_ELSEWHERE;
+    keep_source(bytes_of(RECORD, MODEL));
 }
 
 #endif

@@ -178,6 +178,21 @@ static inline void report_crossings(void)
     printf("\n");
 }
 
+/* A mount that 4 refuses may have no block length at all, so that one is not among them. */
+static inline void report_lengths(void)
+{
+    static const unsigned numbers[] = {BY_LOADED, BY_UNSOUND, BY_LENGTH};
+    for (int over = 0; over < LENGTHS_BEFORE; over++) {
+        printf("mount over block length %s, one partition %lu, two %lu", length_names[over],
+               shown(mounts.mounted[0][over]), shown(mounts.mounted[1][over]));
+        for (size_t i = 0; i < COUNT(numbers); i++)
+            printf(", refused by %u %lu", numbers[i], shown(mounts.refused[numbers[i]][over]));
+        printf("\n");
+    }
+    for (int kind = 0; kind < LENGTH_KINDS; kind++)
+        printf("as mounted: %-54s %9lu\n", length_kind_names[kind], shown(mounts.kinds[kind]));
+}
+
 static inline void report_pairs(void)
 {
     printf("two moves or one: %lu pairs\n", shown(pairs.made));
@@ -203,6 +218,7 @@ static inline int report(void)
     report_moves();
     report_ends();
     report_crossings();
+    report_lengths();
     report_pairs();
     report_read_only();
     printf("empty slices as NULL %lu, 2^32 bytes and more asked %lu, and lent %lu, 65,536 put %lu\n",

@@ -53,7 +53,8 @@ static uint8_t list[MODE_BYTES];
 static inline void set_mode_select(void)
 {
     static const uint32_t lengths[] = {
-        0, 0, 0, 1, 2, 3, 3, 4, 5, 8, 16, 100, 512, LARGEST_BLOCK - 1, LARGEST_BLOCK, LARGEST_BLOCK + 1, 0xffffff};
+        0, 0, 0, 1, 2, 3, 3, 4, 5, 8, 16, 100, 512, MOUNTED_LENGTH, LARGEST_BLOCK - 1, LARGEST_BLOCK,
+        LARGEST_BLOCK + 1, 0xffffff};
     uint32_t block_length = one_in(10) ? draw(70000) : lengths[draw(COUNT(lengths))];
     block[1] = one_in(20) ? 0x00 : PF;
     block[AT_ALLOCATION] = (uint8_t)(one_in(6) ? draw(14) : one_in(10) ? 0 : one_in(4) ? MODE_HEADER : MODE_BYTES);
@@ -65,10 +66,11 @@ static inline void set_mode_select(void)
         list[draw(sizeof list)] ^= (uint8_t)(1 << draw(8));
 }
 
-/* A mostly lawful block of a served code; all else of it stays 0. */
+/* A mostly lawful block of a served code; all else of it stays 0. FIXED is rare where it is a field error, and where a
+ * cartridge has no room for a block of the length that is set, as few have for that of a mount. */
 static inline void set_block(uint8_t code)
 {
-    int fixed = seen.block_length > 0 ? one_in(2) : one_in(30);
+    int fixed = seen.block_length == 0 ? one_in(30) : one_in(seen.block_length < seen.tape.length ? 2 : 8);
     memset(block, 0, 20);
     block[0] = code;
     switch (code) {

@@ -195,13 +195,13 @@ static const struct edge crossed_of_two[] = {
 
 #define SHORT_BY_ONE(code, bytes) {(bytes) - 1, {code, TO_END_OF_DATA}}
 static const struct edge crossed_before_the_act[] = {
-    BOTH("28h before SPACE", PAIR, BLOCKS, 5, LOADED(ATTENTION_MOUNTED, 0, 0), .after = AT(0),
+    BOTH("28h before SPACE", PAIR, BLOCKS, 5, WAITING(ATTENTION_MOUNTED, 0), .after = AT(0),
          .told = PLAIN(TOLD_MOUNTED)),
-    BOTH("29h before SPACE", PAIR, FILEMARKS, -1, LOADED(ATTENTION_FRESH, 2, 0), .after = AT(2),
+    BOTH("29h before SPACE", PAIR, FILEMARKS, -1, WAITING(ATTENTION_FRESH, 2), .after = AT(2),
          .told = PLAIN(TOLD_FRESH)),
-    BOTH("28h before SPACE to end of data", PAIR, TO_END_OF_DATA, 0, LOADED(ATTENTION_MOUNTED, 1, 0), .after = AT(1),
+    BOTH("28h before SPACE to end of data", PAIR, TO_END_OF_DATA, 0, WAITING(ATTENTION_MOUNTED, 1), .after = AT(1),
          .told = PLAIN(TOLD_MOUNTED)),
-    BOTH("29h before SPACE, unloaded", NONE, BLOCKS, 1, BARE(ATTENTION_FRESH, 0), .after = EMPTY(0),
+    BOTH("29h before SPACE, unloaded", NONE, BLOCKS, 1, BARE(ATTENTION_FRESH, EITHER), .after = UNLOADED,
          .told = PLAIN(TOLD_FRESH)),
     BOTH("code 2", PAIR, 2, 1, AT(0), .after = AT(0), .told = FIELD),
     BOTH("code 4", PAIR, 4, 3, AT(1), .after = AT(1), .told = FIELD),
@@ -218,7 +218,7 @@ static const struct edge crossed_before_the_act[] = {
     {"fifteen bytes of SPACE (16)", PAIR, SHORT_BY_ONE(SPACE_16, BYTES_16), AT(0), .refusal = BY_COMMAND},
     {"one byte of SPACE", PAIR, {1, {SPACE}}, AT(1), .refusal = BY_COMMAND},
     BOTH("a record of 29 bytes", PAIR, TO_END_OF_DATA, 0, AT(0), .cut = 1, .refusal = BY_DRIVE),
-    BOTH("attention 2Ah", PAIR, TO_END_OF_DATA, 0, LOADED(0x2a, 0, 0), .refusal = BY_DRIVE),
+    BOTH("attention 2Ah", PAIR, TO_END_OF_DATA, 0, WAITING(0x2a, 0), .refusal = BY_DRIVE),
     BOTH("from above N", PAIR, BLOCKS, -2, AT(4), .refusal = BY_DRIVE),
     BOTH("on an unsound partition", UNSOUND, FILEMARKS, 1, AT(0), .refusal = BY_DRIVE),
     BOTH("beside an unsound partition", PAIR, TO_END_OF_DATA, 0, TWO(0, 0), .p1 = UNSOUND, .refusal = BY_DRIVE),
@@ -257,7 +257,7 @@ static const struct edge crossed_by_no_other[] = {
      .told = RESIDUE(TOLD_OVERFLOW, 1), .puts = "f8"},
     {"ERASE", MIXED, SIX(ERASE, 0, 0), AT(4), .after = AT(4), .erased = CUT},
     {"LOAD", MIXED, SIX(LOAD_UNLOAD, 0, LOAD), AT(5), .after = AT(0)},
-    {"unload", MIXED, SIX(LOAD_UNLOAD, 0, 0), AT(5), .after = EMPTY(0)},
+    {"unload", MIXED, SIX(LOAD_UNLOAD, 0, 0), AT(5), .after = UNLOADED},
     {"REQUEST SENSE", MIXED, SIX(REQUEST_SENSE, 0, SENSE_BYTES), AT(5), .room = SENSE_BYTES, .after = AT(5),
      .data = {SENSE_BYTES, OLD_SENSE}},
     {"READ POSITION", MIXED, READ_POSITION(FORM_SHORT), AT(5), .room = SHORT_BYTES, .after = AT(5),
@@ -295,19 +295,22 @@ static const struct edge life_of_spaces[] = {
     {.what = "SPACE to its end of data", .command = SIX(SPACE, TO_END_OF_DATA, 7), .after = TWO(1, 0)},
     {.what = "LOCATE (16) back", .command = LOCATE_16(CP | TO_END, 0, 0), .after = TWO(0, 2)},
     {.what = "SPACE back over the filemark", .command = SIX(SPACE, FILEMARKS, -1), .after = TWO(0, 1), .crossed = 1},
-    {.what = "unload", .command = SIX(LOAD_UNLOAD, 0, 0), .after = EMPTY(0)},
-    {.what = "SPACE with nothing loaded", .command = SIX(SPACE, BLOCKS, 1), .after = EMPTY(0), .told = NOT_LOADED},
+    {.what = "unload", .command = SIX(LOAD_UNLOAD, 0, 0), .after = UNLOADED},
+    {.what = "SPACE with nothing loaded", .command = SIX(SPACE, BLOCKS, 1), .after = UNLOADED, .told = NOT_LOADED},
 };
 
 /* Each right after a SPACE that crossed something: a number left over from it would be told. */
 static void run_behind_a_space(const struct edge *edges, size_t count)
 {
-    for (size_t i = 0; i < count; i++) {
-        struct call call = call_of(&crossed_to_end[0]);
-        hold_to(&call, 0, "the SPACE before");
-        free_call(&call);
-        run(&edges[i], 1);
-    }
+    for (const struct edge *edge = edges; edge < edges + count; edge++)
+        for (size_t i = 0; i < lengths_of(&edge->before); i++) {
+            struct edge space = edge_with(crossed_to_end[0], either_length[i]);
+            struct edge named = edge_with(*edge, either_length[i]);
+            struct call call = call_of(&space);
+            hold_to(&call, 0, "the SPACE before");
+            free_call(&call);
+            run(&named, 1);
+        }
 }
 
 static void objects_crossed(void)

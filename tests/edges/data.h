@@ -241,7 +241,7 @@ static const struct edge modes[] = {
 
 static const struct edge loading[] = {
     {"unload keeps the block length", E, SIX(LOAD_UNLOAD, 0, 0), SET(9, 2), .after = EMPTY(9)},
-    {"unload of two partitions", E, SIX(LOAD_UNLOAD, IMMED, 0), TWO(1, 4), .p1 = MIXED, .after = EMPTY(0)},
+    {"unload of two partitions", E, SIX(LOAD_UNLOAD, IMMED, 0), TWO(1, 4), .p1 = MIXED, .after = UNLOADED},
     {"LOAD goes to partition 0", E, SIX(LOAD_UNLOAD, 0, LOAD), TWO(1, 4), .p1 = MIXED, .after = TWO(0, 0)},
     {"LOAD keeps the block length", E, SIX(LOAD_UNLOAD, IMMED, LOAD), SET(9, 2), .after = SET(9, 0)},
     {"LOAD with another bit", E, SIX(LOAD_UNLOAD, 0, 3), SET(9, 2), .after = SET(9, 2), .told = PLAIN(TOLD_FIELD)},

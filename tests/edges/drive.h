@@ -6,80 +6,7 @@
 #include "../lend.h"
 #include "../record.h"
 #include "stormtoggle.h"
-
-/* ---- the cartridges */
-
-/* Objects are words: bK is a block of K bytes, B the largest there is, f a filemark, fK is K of them. Behind @K they go
- * on from byte K, wherever the last one ended. All cartridges before UNSOUND are sound, and none from it on. */
-enum cartridge {
-    NONE, E, GUARDED, BLANK, BLANK_65, TEN, FULL, MIXED, FILES, PARTED, PAIR, MARKS, BIG, GUARDED_MIXED, GUARDED_FILES,
-    LEFT_3, LEFT_2, MARKED_3, MARKED_2, GUARDED_3, GUARDED_2, LEFT_4_OF_65, LEFT_3_OF_65, LEFT_4_OF_80, LEFT_3_OF_80,
-    BIG_BEFORE, BIG_IN,
-    UNSOUND, OVERLAPPING, BLOCK_OF_0, FILEMARK_AT_1, FILEMARKS_AT_5
-};
-
-/* Free bytes are not 0, so that a byte that is zeroed or moved shows; E alone is the document's, byte by byte. */
-static const struct tape {
-    size_t length;
-    uint32_t flags;
-    uint8_t free;
-    const char *objects;
-} tapes[] = {
-    [NONE] = {0, 0, 0x00, ""},
-    [E] = {E_BYTES, 0, 0x00, "b3 f"},
-    [GUARDED] = {E_BYTES, FLAG_PROTECTED, 0x00, "b3 f"},
-    [BLANK] = {SHORTEST, 0, 0xee, ""},
-    [BLANK_65] = {SHORTEST + 1, 0, 0xee, ""},
-    [TEN] = {SHORTEST, 0, 0xee, "b10"},
-    [FULL] = {SHORTEST, 0, 0xee, "b44"},
-    [MIXED] = {96, 0, 0xee, "b3 f b3 b3 b5 f b3"},
-    [FILES] = {SHORTEST, 0, 0xee, "b1 b2 f b3 f"},
-    [PARTED] = {SHORTEST, 0, 0xee, "b3 f b2"},
-    [PAIR] = {SHORTEST, 0, 0xee, "b1 b2 f"},
-    [MARKS] = {SHORTEST, 0, 0xee, "f3"},
-    [BIG] = {2 * LARGEST_BLOCK + SHORTEST, 0, 0xee, "B"},
-    [GUARDED_MIXED] = {96, FLAG_PROTECTED, 0xee, "b3 f b3 b3 b5 f b3"},
-    [GUARDED_FILES] = {SHORTEST, FLAG_PROTECTED, 0xee, "b1 b2 f b3 f"},
-    [LEFT_3] = {SHORTEST, 0, 0xee, "b41"},
-    [LEFT_2] = {SHORTEST, 0, 0xee, "b42"},
-    [MARKED_3] = {SHORTEST, 0, 0xee, "b37 f"},
-    [MARKED_2] = {SHORTEST, 0, 0xee, "b38 f"},
-    [GUARDED_3] = {SHORTEST, FLAG_PROTECTED, 0xee, "b41"},
-    [GUARDED_2] = {SHORTEST, FLAG_PROTECTED, 0xee, "b42"},
-    [LEFT_4_OF_65] = {SHORTEST + 1, 0, 0xee, "b41"},
-    [LEFT_3_OF_65] = {SHORTEST + 1, 0, 0xee, "b42"},
-    [LEFT_4_OF_80] = {SHORTEST + 16, 0, 0xee, "b56"},
-    [LEFT_3_OF_80] = {SHORTEST + 16, 0, 0xee, "b57"},
-    [BIG_BEFORE] = {2 * LARGEST_BLOCK + SHORTEST, 0, 0xee, "B b57381"},
-    [BIG_IN] = {2 * LARGEST_BLOCK + SHORTEST, 0, 0xee, "B b57382"},
-    [UNSOUND] = {E_BYTES, 2 * FLAG_PROTECTED, 0x00, "b3 f"},
-    [OVERLAPPING] = {SHORTEST, 0, 0xee, "b3 f @0 b2"},
-    [BLOCK_OF_0] = {SHORTEST, 0, 0xee, "b3 b0 f"},
-    [FILEMARK_AT_1] = {SHORTEST, 0, 0xee, "@1 f b1 f"},
-    [FILEMARKS_AT_5] = {SHORTEST, 0, 0xee, "@5 f3"},
-};
-
-/* Puts objects from a number on; blocks take the source's bytes one after the other, or bytes by their own number. */
-static inline void put_objects(uint8_t *image, size_t length, size_t number, const char *words, const uint8_t *source)
-{
-    size_t end = end_at(image, length, number);
-    for (const char *word = words; *word != '\0'; word += strspn(word, " ")) {
-        size_t count = *word == 'B' ? LARGEST_BLOCK : strtoul(word + 1, NULL, 10);
-        if (*word == '@') {
-            end = count;
-        } else if (*word == 'b' || *word == 'B') {
-            for (size_t i = 0; i < count; i++)
-                image[end + i] = source != NULL ? *source++ : (uint8_t)(16 * number + i + 1);
-            end += count;
-            set_entry(image, length, number++, (uint32_t)end);
-        } else {
-            for (size_t i = 0; i < (count == 0 ? 1 : count); i++)
-                set_entry(image, length, number++, ENTRY_FILEMARK | (uint32_t)end);
-        }
-        word += strcspn(word, " ");
-    }
-    lay_trailer(image, length, number, get_field(image, length, TRAILER_FLAGS));
-}
+#include "tapes.h"
 
 /* ---- a case */
 
@@ -120,11 +47,21 @@ struct edge {
 /* No command may leave this sense: it is neither empty nor any that a drive tells. */
 #define OLD_SENSE {0xf0, 0x5a, 0x25, 0xde, 0xad, 0xbe, 0xef, 0x0b, 1, 2, 3, 4, 0x24, 0x7f, 5, 6, 7, 8}
 #define LOADED(attention, position, block_length) {1, 1, 0, attention, position, block_length, OLD_SENSE}
-#define AT(position) LOADED(ATTENTION_NONE, position, 0)
 #define SET(block_length, position) LOADED(ATTENTION_NONE, position, block_length)
-#define TWO(current, position) {1, 2, current, ATTENTION_NONE, position, 0, OLD_SENSE}
 #define BARE(attention, block_length) {0, 0, 0, attention, 0, block_length, OLD_SENSE}
 #define EMPTY(block_length) BARE(ATTENTION_NONE, block_length)
+
+/* A case that names no block length says the same of each of these, which a drive has until MODE SELECT, fresh and
+ * mounted: it is run with both, and keeps the one that it is run with. EITHER is the length of no record. */
+#define EITHER UINT32_MAX
+static const uint32_t either_length[] = {0, MOUNTED_LENGTH};
+#define WAITING(attention, position) LOADED(attention, position, EITHER)
+#define AT(position) SET(EITHER, position)
+#define TWO(current, position) {1, 2, current, ATTENTION_NONE, position, EITHER, OLD_SENSE}
+#define UNLOADED EMPTY(EITHER)
+
+/* As a mount leaves it, once its attention is told. */
+#define MOUNTED(position) SET(MOUNTED_LENGTH, position)
 
 /* ---- the call */
 
@@ -225,23 +162,38 @@ static inline uint64_t answer_wanted(const struct edge *edge)
            (uint64_t)edge->crossed << ANSWER_CROSSED;
 }
 
-static inline struct call call_of(const struct edge *edge)
+/* What must be left of the slices that are lent. */
+static inline void make_left(struct call *call, const struct edge *edge)
 {
     enum span current = edge->before.current == 1 ? PARTITION_1 : PARTITION_0;
+    call->answer = REFUSED(edge->refusal);
+    if (edge->refusal != 0)
+        return;
+    call->answer = answer_wanted(edge);
+    lay_told(call->after[THE_RECORD], &edge->after, &edge->told);
+    memcpy(call->after[THE_RECEIVED], edge->data.at, edge->data.length);
+    if (edge->reads > 0)
+        memcpy(call->after[THE_RECEIVED],
+               call->before[current] + end_at(call->before[current], call->length[current], edge->before.position),
+               edge->reads);
+    change_tape(call, edge, current);
+}
+
+static inline struct call call_of(const struct edge *edge)
+{
     struct call call;
     make_lent(&call, edge);
-    call.answer = REFUSED(edge->refusal);
-    if (edge->refusal != 0)
-        return call;
-    call.answer = answer_wanted(edge);
-    lay_told(call.after[THE_RECORD], &edge->after, &edge->told);
-    memcpy(call.after[THE_RECEIVED], edge->data.at, edge->data.length);
-    if (edge->reads > 0)
-        memcpy(call.after[THE_RECEIVED],
-               call.before[current] + end_at(call.before[current], call.length[current], edge->before.position),
-               edge->reads);
-    change_tape(&call, edge, current);
+    make_left(&call, edge);
     return call;
+}
+
+/* A slice as another call must leave it, in the place of the one that was made. */
+static inline void take_over(struct call *call, enum span span, const struct call *left)
+{
+    free(call->before[span]);
+    free(call->after[span]);
+    make_span(call, span, left->length[span], 0);
+    make_equal(call, span, left->after[span]);
 }
 
 static inline uint64_t answer_of(uint8_t *const lent[SPANS], const size_t length[SPANS])
@@ -279,10 +231,19 @@ static inline uint64_t answer_read_only(const struct call *call)
     return answer_of(lent, call->length);
 }
 
-/* The pages are the child's alone, and gone with it: a fork is slow where many are mapped. */
-static inline void hold_read_only(const struct call *call, const char *what)
+static inline int agree_read_only(const struct call *calls, size_t count)
 {
-    expect_in_child(answer_read_only(call) == call->answer, "on read-only pages, %s", what);
+    size_t agree = 0;
+    while (agree < count && answer_read_only(&calls[agree]) == calls[agree].answer)
+        agree++;
+    return agree == count;
+}
+
+/* The pages are the child's alone, and gone with it: a fork is slow where many are mapped, and slow at all, so that the
+ * calls of a case have one. */
+static inline void hold_read_only(const struct call *calls, size_t count, const char *what)
+{
+    expect_in_child(agree_read_only(calls, count), "on read-only pages, %s", what);
 }
 
 /* SPACE crosses what lies between the positions, and nothing else crosses, or the case itself is wrong. */
@@ -309,17 +270,70 @@ static inline void free_call(struct call *call)
     }
 }
 
+static inline void hold(const struct edge *edge, const struct call *call)
+{
+    char what[120];
+    snprintf(what, sizeof what, "%s, from block length %u", edge->what, (unsigned)edge->before.block_length);
+    hold_crossed(edge, edge->before.position, what);
+    hold_sound(call, what);
+    hold_to(call, 0, what);
+    hold_to(call, 1, what);
+    cases_run++;
+}
+
+/* The drive with a block length, where it names none. */
+static inline struct drive with_length(struct drive drive, uint32_t block_length)
+{
+    if (drive.block_length == EITHER)
+        drive.block_length = block_length;
+    return drive;
+}
+
+static inline struct edge edge_with(struct edge edge, uint32_t block_length)
+{
+    edge.before = with_length(edge.before, block_length);
+    edge.after = with_length(edge.after, block_length);
+    return edge;
+}
+
+/* With how many lengths a case is run that begins with this drive. */
+static inline size_t lengths_of(const struct drive *before)
+{
+    return before->block_length == EITHER ? COUNT(either_length) : 1;
+}
+
 static inline void run(const struct edge *edges, size_t count)
 {
     for (const struct edge *edge = edges; edge < edges + count; edge++) {
-        struct call call = call_of(edge);
-        hold_crossed(edge, edge->before.position, edge->what);
-        hold_sound(&call, edge->what);
-        hold_to(&call, 0, edge->what);
-        hold_to(&call, 1, edge->what);
-        hold_read_only(&call, edge->what);
-        free_call(&call);
-        cases_run++;
+        struct call calls[COUNT(either_length)];
+        size_t lengths = lengths_of(&edge->before);
+        for (size_t i = 0; i < lengths; i++) {
+            struct edge named = edge_with(*edge, either_length[i]);
+            calls[i] = call_of(&named);
+            hold(&named, &calls[i]);
+        }
+        hold_read_only(calls, lengths, edge->what);
+        for (size_t i = 0; i < lengths; i++)
+            free_call(&calls[i]);
+    }
+}
+
+/* One drive's calls: each finds the record and the partitions that the one before it left, which is where its drive
+ * comes from; the first finds those of the call that is handed in, and the last one's are handed back in its place. */
+static inline void run_in_turn(struct call *left, const struct edge *edges, size_t count)
+{
+    for (size_t i = 0; i < count; i++) {
+        struct edge edge = edges[i];
+        struct call call;
+        edge.before = drive_of(left->after[THE_RECORD]);
+        make_lent(&call, &edge);
+        take_over(&call, PARTITION_0, left);
+        take_over(&call, PARTITION_1, left);
+        make_left(&call, &edge);
+        hold(&edge, &call);
+        hold_read_only(&call, 1, edge.what);
+        free_call(left);
+        *left = call;
     }
 }
 

@@ -49,13 +49,13 @@ static const struct edge end_read[] = {
      .told = RESIDUE(TOLD_LENGTH, 0xffffffd9), .reads = 2},
     {"READ 2 of the last block, in the zone", LEFT_2, SIX(READ, 0, 2), AT(0), .room = 5, .after = AT(1),
      .told = RESIDUE(TOLD_LENGTH, 0xffffffd8), .reads = 2},
-    ALIKE("READ 2 of the last block with SILI", LEFT_3, LEFT_2, SIX(READ, SILI, 2), AT(0), .room = 5, .after = AT(1),
-          .reads = 2),
+    ALIKE("READ 2 of the last block with SILI, block length 0", LEFT_3, LEFT_2, SIX(READ, SILI, 2), SET(0, 0),
+          .room = 5, .after = SET(0, 1), .reads = 2),
     ALIKE("FIXED READ 1 of the last block, odd", LEFT_3, LEFT_2, SIX(READ, FIXED, 1), SET(3, 0), .room = 3,
           .after = SET(3, 1), .told = RESIDUE(TOLD_LENGTH, 1)),
     ALIKE("READ into less than the request, at N", LEFT_3, LEFT_2, SIX(READ, 0, 5), AT(1), .room = 4,
           .refusal = BY_RECEIVED),
-    ALIKE("READ at N under an attention", LEFT_3, LEFT_2, SIX(READ, 0, 5), LOADED(ATTENTION_MOUNTED, 1, 0), .room = 5,
+    ALIKE("READ at N under an attention", LEFT_3, LEFT_2, SIX(READ, 0, 5), WAITING(ATTENTION_MOUNTED, 1), .room = 5,
           .after = AT(1), .told = PLAIN(TOLD_MOUNTED)),
 };
 

@@ -286,7 +286,7 @@ static const struct edge computed[] = {
     {"partition 2 of two moves nothing", E, LOCATE_16(CP, 0, 2), TWO(1, 4), .p1 = FILES, .after = TWO(1, 4),
      .told = PLAIN(TOLD_FIELD)},
     {"byte 3 without CP, on partition 1", E, LOCATE_16(0, 1, 255), TWO(1, 4), .p1 = FILES, .after = TWO(1, 1)},
-    {"LOCATE (16) under an attention", E, LOCATE_16(TO_OBJECT, 0, 0), LOADED(ATTENTION_MOUNTED, 1, 0), .after = AT(1),
+    {"LOCATE (16) under an attention", E, LOCATE_16(TO_OBJECT, 0, 0), WAITING(ATTENTION_MOUNTED, 1), .after = AT(1),
      .told = PLAIN(TOLD_MOUNTED)},
     {"no filemarks", E, SPACE_16(FILEMARKS, 0), AT(1), .after = AT(1)},
     {"end of data, count -1", E, SPACE_16(TO_END_OF_DATA, -1), AT(0), .after = AT(2), .crossed = 2},

@@ -165,11 +165,11 @@ static const struct merged merged_behind_a_stop[] = {
 #define WRONG_SPACE(count) {BYTES_6, {SPACE, BLOCKS, 0, 0, count, 1}}
 #define WRONG_SPACE_16(count) {BYTES_16, {SPACE_16, BLOCKS, [11] = count, [15] = 1}}
 static const struct merged merged_apart[] = {
-    BY_EACH("28h before blocks 2, 1", MIXED, LOADED(ATTENTION_MOUNTED, 2, 0), BLOCKS, 2,
+    BY_EACH("28h before blocks 2, 1", MIXED, WAITING(ATTENTION_MOUNTED, 2), BLOCKS, 2,
             TELLS(2, 0, PLAIN(TOLD_MOUNTED)), 1, GOES(3, 1), 3, TELLS(2, 0, PLAIN(TOLD_MOUNTED)), ELSEWHERE),
-    BY_EACH("29h before filemarks 1, 1", FILES, LOADED(ATTENTION_FRESH, 0, 0), FILEMARKS, 1,
+    BY_EACH("29h before filemarks 1, 1", FILES, WAITING(ATTENTION_FRESH, 0), FILEMARKS, 1,
             TELLS(0, 0, PLAIN(TOLD_FRESH)), 1, GOES(3, 3), 2, TELLS(0, 0, PLAIN(TOLD_FRESH)), ELSEWHERE),
-    BY_EACH("28h before blocks 2, -2", MIXED, LOADED(ATTENTION_MOUNTED, 4, 0), BLOCKS, 2,
+    BY_EACH("28h before blocks 2, -2", MIXED, WAITING(ATTENTION_MOUNTED, 4), BLOCKS, 2,
             TELLS(4, 0, PLAIN(TOLD_MOUNTED)), -2, GOES(2, 2), 0, TELLS(4, 0, PLAIN(TOLD_MOUNTED)), ELSEWHERE),
     BY_EACH("blocks 2, 1 with nothing loaded", MIXED, EMPTY(9), BLOCKS, 2, TELLS(0, 0, NOT_LOADED), 1,
             TELLS(0, 0, NOT_LOADED), 3, TELLS(0, 0, NOT_LOADED), ONE_WAY),

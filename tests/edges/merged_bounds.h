@@ -72,9 +72,9 @@ static int are_all_blocks(const uint8_t *image)
 }
 
 /* The image is too large to be lent a copy of it for each call, as other cases are. */
-static void hold_bound(uint8_t *image, const struct bound *bound)
+static void hold_bound(uint8_t *image, const struct bound *bound, uint32_t block_length)
 {
-    struct drive before = AT(bound->from), after = AT(bound->to);
+    struct drive before = SET(block_length, bound->from), after = SET(block_length, bound->to);
     uint8_t record[RECORD_BYTES], want[RECORD_BYTES], none[1];
     uint64_t answer, status = bound->told.first != 0;
     lay_drive(record, &before);
@@ -92,7 +92,8 @@ static void moves_at_the_bounds(void)
     uint8_t *image = make_all_blocks();
     run_merged(merged_past_24_bits, COUNT(merged_past_24_bits));
     for (size_t i = 0; image != NULL && i < COUNT(bounds); i++)
-        hold_bound(image, &bounds[i]);
+        for (size_t length = 0; length < COUNT(either_length); length++)
+            hold_bound(image, &bounds[i], either_length[length]);
     if (image == NULL)
         return;
     expect(are_all_blocks(image), "the 2^23 blocks behind the calls");

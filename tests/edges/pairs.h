@@ -157,7 +157,11 @@ static void run_merged(const struct merged *rows, size_t count)
 {
     for (const struct merged *row = rows; row < rows + count; row++) {
         run_moves(row);
-        hold_relation(row);
+        for (size_t i = 0; i < lengths_of(&row->start); i++) {
+            struct merged named = *row;
+            named.start = with_length(row->start, either_length[i]);
+            hold_relation(&named);
+        }
     }
 }
 

@@ -50,6 +50,28 @@ static inline void hold_crossed(unsigned refusal)
         mismatch("objects crossed expected %u, came %u", (unsigned)distance, (unsigned)crossed);
 }
 
+/* "After a mount the block length shall be 32,768", of a fresh record it is 0, and MODE SELECT alone sets another. */
+static inline uint32_t length_expected(unsigned refusal)
+{
+    int selects = latest.kind == MODE_SELECT && STORMTOGGLE_CARRIED(latest.answer) == MODE_BYTES;
+    if (refusal != 0)
+        return latest.before.block_length;
+    if (latest.kind == FRESH || latest.kind == MOUNT)
+        return latest.kind == MOUNT ? MOUNTED_LENGTH : 0;
+    return selects ? get32(latest.sent.bytes + AT_BLOCK_LENGTH - 1) & COUNT_MOST : latest.before.block_length;
+}
+
+static inline void hold_length(unsigned refusal)
+{
+    uint32_t expected = length_expected(refusal), came = drive_of(latest.by->record).block_length;
+    int is_other = latest.before.block_length != 0 && latest.before.block_length != MOUNTED_LENGTH;
+    happens(MOUNTS_OVER_ANOTHER, latest.kind == MOUNT && refusal == 0 && is_other);
+    if (refusal == 0 && (latest.kind == FRESH || latest.kind == MOUNT || latest.kind == MODE_SELECT))
+        latest.by->as_mounted = latest.kind == MOUNT;
+    if (came != expected)
+        mismatch("block length expected %u, came %u", (unsigned)expected, (unsigned)came);
+}
+
 /* Alone with the cartridge since its mount, a record is never refused by 4. */
 static inline void end_call(uint64_t answer)
 {
@@ -59,6 +81,7 @@ static inline void end_call(uint64_t answer)
     hold_crossed(refusal);
     if (latest.by == NULL)
         return;
+    hold_length(refusal);
     latest.by->was_refused = refusal == BY_DRIVE;
     happens(NEVER_BY_4, latest.by->alone_since);
     if (refusal == BY_DRIVE && latest.by->alone_since)
@@ -82,8 +105,8 @@ static inline void call_mount(struct holder *by, struct loan loan, size_t most)
 {
     size_t first = length_at(loan, 0), second = length_at(loan, 1);
     begin_call(MOUNT, by, loan);
-    end_call(stormtoggle_mount(by->record, by->length, bytes_at(loan, 0), first < most ? first : most,
-                               bytes_at(loan, 1), second < most ? second : most));
+    end_call(mount_service(by->record, by->length, bytes_at(loan, 0), first < most ? first : most, bytes_at(loan, 1),
+                           second < most ? second : most));
     if (latest.answer != DONE)
         return;
     by->usual = loan;

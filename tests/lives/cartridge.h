@@ -142,6 +142,7 @@ struct holder {
     struct loan usual; /* what it was mounted with, and what it is mostly lent */
     int is_mounted;    /* with the whole cartridge, by a mount that was done */
     int alone_since;   /* it is, and since then neither was used with another */
+    int as_mounted;    /* its block length is that of its mount: none was selected since */
     int was_unloaded, was_refused;
 };
 
@@ -168,7 +169,8 @@ static inline void note_unloaded(struct holder *holder)
 static inline void lend_record(struct holder *holder)
 {
     size_t room = holder == &holders[ODD] ? RECORD_BYTES + 10 : RECORD_BYTES;
-    *holder = (struct holder){lend(some_noise(room), room), room, RECORD_BYTES, whole_cartridge(), 0, 0, 0, 0};
+    *holder = (struct holder){
+        .record = lend(some_noise(room), room), .room = room, .length = RECORD_BYTES, .usual = whole_cartridge()};
 }
 
 /* Makes the odd record anew. The byte that is off is often the position's last, which leaves it well formed. */
@@ -177,6 +179,7 @@ static inline void make_odd(void)
     struct holder *odd = &holders[ODD];
     const struct holder *like = &holders[draw(drives)];
     note_unloaded(odd);
+    odd->as_mounted = 0;
     odd->length = one_in(10) ? draw(odd->room + 1) : RECORD_BYTES;
     odd->usual = like->usual;
     memcpy(odd->record, some_noise(odd->room), odd->room);

@@ -98,7 +98,24 @@ static inline uint64_t command_whole(uint8_t *record, struct bytes block, uint8_
                            bytes_at(loan, 1), length_at(loan, 1), NULL, 0, received, length);
 }
 
-enum meeting { A_BLOCK, A_FILEMARK, END_OF_TAPE, END_IN_ZONE, SOMETHING_ELSE };
+enum meeting { A_BLOCK, AN_ODD_BLOCK, A_FILEMARK, END_OF_TAPE, END_IN_ZONE, SOMETHING_ELSE };
+
+/* Of the largest block, with SILI, or of one block of the length that a mount sets, where the record has it. */
+enum reading { OF_THE_LARGEST, HIDING_LENGTH, OF_ONE_FIXED };
+
+static inline enum reading some_reading(const uint8_t *record)
+{
+    if (drive_of(record).block_length == MOUNTED_LENGTH && one_in(8))
+        return OF_ONE_FIXED;
+    return one_in(2) ? HIDING_LENGTH : OF_THE_LARGEST;
+}
+
+static inline struct bytes block_of(enum reading reading)
+{
+    if (reading == OF_ONE_FIXED)
+        return (struct bytes)SIX(READ, FIXED, 1);
+    return (struct bytes)SIX(READ, reading == HIDING_LENGTH ? SILI : 0, LARGEST_BLOCK);
+}
 
 /* Whether "position N of the partition is in the zone", by the room that the objects of the list leave: an object takes
  * its entry and its data. */
@@ -111,18 +128,38 @@ static inline int ends_in_zone(const struct tape *tape)
     return room * ZONE_SHARE < all;
 }
 
-/* What a READ of the largest block met, told by the answer and the kept sense alone. */
-static inline enum meeting met_by(uint64_t answer, const uint8_t *sense, int hides_length)
+/* Whether a READ that is GOOD has met a block by these bytes. */
+static inline int is_block_by(enum reading reading, uint32_t carried)
+{
+    switch (reading) {
+    case OF_ONE_FIXED: return carried == MOUNTED_LENGTH;
+    case HIDING_LENGTH: return carried > 0;
+    default: return carried == LARGEST_BLOCK;
+    }
+}
+
+/* What it has met with ILI: FIXED carries none of its bytes, and no block is longer than the largest, so that SILI has
+ * hidden every other length. */
+static inline enum meeting met_with_ili(enum reading reading, uint32_t carried)
+{
+    if (reading == OF_ONE_FIXED)
+        return carried == 0 ? AN_ODD_BLOCK : SOMETHING_ELSE;
+    return carried > 0 && reading == OF_THE_LARGEST ? A_BLOCK : SOMETHING_ELSE;
+}
+
+/* What a READ met, told by the answer and the kept sense alone. */
+static inline enum meeting met_by(uint64_t answer, const uint8_t *sense, enum reading reading)
 {
     uint32_t carried = STORMTOGGLE_CARRIED(answer), information = get32(sense + STORMTOGGLE_SENSE_INFORMATION);
     if (STORMTOGGLE_REFUSAL(answer) != 0 || STORMTOGGLE_CROSSED(answer) != 0)
         return SOMETHING_ELSE;
     if (STORMTOGGLE_STATUS(answer) == STORMTOGGLE_GOOD)
-        return carried > 0 && (carried == LARGEST_BLOCK || hides_length) ? A_BLOCK : SOMETHING_ELSE;
-    if (sense[STORMTOGGLE_SENSE_FIRST] != STORMTOGGLE_VALID || information != LARGEST_BLOCK - carried)
+        return is_block_by(reading, carried) ? A_BLOCK : SOMETHING_ELSE;
+    if (sense[STORMTOGGLE_SENSE_FIRST] != STORMTOGGLE_VALID ||
+        information != (reading == OF_ONE_FIXED ? 1 : LARGEST_BLOCK - carried))
         return SOMETHING_ELSE;
     switch (told_by(sense)) {
-    case TOLD_LENGTH: return carried > 0 && !hides_length ? A_BLOCK : SOMETHING_ELSE;
+    case TOLD_LENGTH: return met_with_ili(reading, carried);
     case TOLD_FILEMARK: return carried == 0 ? A_FILEMARK : SOMETHING_ELSE;
     case TOLD_END_OF_DATA: return carried == 0 ? END_OF_TAPE : SOMETHING_ELSE;
     case TOLD_END_IN_ZONE: return carried == 0 ? END_IN_ZONE : SOMETHING_ELSE;
@@ -145,29 +182,34 @@ static inline void read_differs(const struct tape *tape, uint32_t k, const struc
     end_mismatch();
 }
 
-static inline enum meeting meeting_expected(const struct tape *tape, const struct event *object)
+static inline enum meeting meeting_expected(const struct tape *tape, const struct event *object,
+                                            enum reading reading)
 {
     if (object == NULL)
         return ends_in_zone(tape) ? END_IN_ZONE : END_OF_TAPE;
-    return object->kind == PUT_BLOCK ? A_BLOCK : A_FILEMARK;
+    if (object->kind == PUT_FILEMARK)
+        return A_FILEMARK;
+    return reading == OF_ONE_FIXED && object->length != MOUNTED_LENGTH ? AN_ODD_BLOCK : A_BLOCK;
 }
 
 /* One READ meets this object, or the end of data if it is NULL. What the buffer held before is none of its bytes. */
 static inline int read_meets(uint8_t *record, const struct tape *tape, uint32_t k, const struct event *object)
 {
-    static const enum happening happenings[] = {[A_BLOCK] = BLOCKS_MET, [A_FILEMARK] = FILEMARKS_MET,
-                                                [END_OF_TAPE] = ENDS_MET, [END_IN_ZONE] = ENDS_MET_IN_ZONE};
-    int hides_length = one_in(2), agrees;
-    enum meeting expected = meeting_expected(tape, object);
-    uint32_t length = object != NULL ? object->length : 0;
+    static const enum happening happenings[] = {[A_BLOCK] = BLOCKS_MET, [AN_ODD_BLOCK] = ODD_MET,
+                                                [A_FILEMARK] = FILEMARKS_MET, [END_OF_TAPE] = ENDS_MET,
+                                                [END_IN_ZONE] = ENDS_MET_IN_ZONE};
+    enum reading reading = some_reading(record);
+    enum meeting expected = meeting_expected(tape, object, reading);
+    uint32_t length = expected == A_BLOCK ? object->length : 0;
     uint64_t answer;
+    int agrees;
     if (length > 0)
         memset(read_bytes, object->bytes[0] ^ 0xff, length);
-    answer = command_whole(record, (struct bytes)SIX(READ, hides_length ? SILI : 0, LARGEST_BLOCK), read_bytes,
-                           LARGEST_BLOCK);
+    answer = command_whole(record, block_of(reading), read_bytes, LARGEST_BLOCK);
     happens(READS, 1);
     happens(happenings[expected], 1);
-    agrees = met_by(answer, record + STORMTOGGLE_RECORD_SENSE, hides_length) == expected &&
+    happens(FIXED_MET, expected == A_BLOCK && reading == OF_ONE_FIXED);
+    agrees = met_by(answer, record + STORMTOGGLE_RECORD_SENSE, reading) == expected &&
              STORMTOGGLE_CARRIED(answer) == length && (length == 0 || memcmp(read_bytes, object->bytes, length) == 0);
     if (!agrees)
         read_differs(tape, k, object, answer, record);

@@ -77,11 +77,14 @@ static inline void spoil_long_move(uint8_t *record, const uint8_t *command)
         put32(record + STORMTOGGLE_RECORD_POSITION, now - 1);
 }
 
-static inline void spoil_read(const struct moment *was, uint8_t *record)
+static inline void spoil_read(const struct moment *was, uint8_t *record, const uint8_t *command, uint32_t told)
 {
     uint32_t now = get32(record + STORMTOGGLE_RECORD_POSITION);
-    if (FAULT == 9 && now < was->objects)
+    uint8_t *information = record + STORMTOGGLE_RECORD_SENSE + STORMTOGGLE_SENSE_INFORMATION;
+    if (FAULT == 9 && told == TOLD_FILEMARK && now < was->objects)
         put32(record + STORMTOGGLE_RECORD_POSITION, now + 1);
+    if (FAULT == 21 && told == TOLD_LENGTH && command[1] & FIXED)
+        put32(information, get32(information) - 1);
 }
 
 /* After a command that met end of data: no EOM in the zone, or EOM before it. */
@@ -109,8 +112,8 @@ static inline void spoil(const struct moment *was, uint64_t answer, uint8_t *rec
         spoil_locate(was, record, command, objects_there);
     } else if ((command[0] == LOCATE_16 || command[0] == SPACE_16) && told == TOLD_GOOD) {
         spoil_long_move(record, command);
-    } else if (command[0] == READ && told == TOLD_FILEMARK) {
-        spoil_read(was, record);
+    } else if (command[0] == READ) {
+        spoil_read(was, record, command, told);
     }
 }
 
@@ -127,6 +130,13 @@ static inline uint64_t spoiled_crossed(const struct moment *was, uint64_t answer
     if (FAULT == 16 && command[0] == LOCATE_16)
         return answer + ((uint64_t)(now > then ? now - then : then - now) << ANSWER_CROSSED);
     return answer;
+}
+
+/* What a mount or a LOAD UNLOAD leaves as the block length, which is right until here. */
+static inline void spoil_length(uint8_t *record, uint32_t block_length, int holds)
+{
+    if (holds)
+        put32(record + STORMTOGGLE_RECORD_BLOCK_LENGTH, block_length);
 }
 
 static inline uint64_t command_service(uint8_t *record, size_t record_len, const uint8_t *command, size_t command_len,
@@ -148,7 +158,20 @@ static inline uint64_t command_service(uint8_t *record, size_t record_len, const
         int second = record[STORMTOGGLE_RECORD_CURRENT] == 1;
         spoil(&was, answer, record, command, get_field(second ? p1 : p0, second ? p1_len : p0_len, TRAILER_N));
         answer = spoiled_crossed(&was, answer, record, command);
+        spoil_length(record, 0, FAULT == 19 && command[0] == LOAD_UNLOAD && record[STORMTOGGLE_RECORD_LOADED] == 0);
+        spoil_length(record, MOUNTED_LENGTH, FAULT == 20 && command[0] == LOAD_UNLOAD && command[AT_LOAD] & LOAD &&
+                                                 STORMTOGGLE_STATUS(answer) == STORMTOGGLE_GOOD);
     }
+    return answer;
+}
+
+static inline uint64_t mount_service(uint8_t *record, size_t record_len, const uint8_t *p0, size_t p0_len,
+                                     const uint8_t *p1, size_t p1_len)
+{
+    uint32_t before = record_len == RECORD_BYTES ? drive_of(record).block_length : 0;
+    uint64_t answer = stormtoggle_mount(record, record_len, p0, p0_len, p1, p1_len);
+    spoil_length(record, 0, FAULT == 17 && answer == DONE);
+    spoil_length(record, before, FAULT == 18 && answer == DONE && before != 0);
     return answer;
 }
 

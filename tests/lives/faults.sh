@@ -1,5 +1,5 @@
 #!/usr/bin/env bash
-# faults.sh: shows that tests/lives/lives.c can fail: the run of check finds each of sixteen faults seeded in the
+# faults.sh: shows that tests/lives/lives.c can fail: the run of check finds each of twenty-one faults seeded in the
 # services.
 # LIBRARY names another archive than the one that is built here from the sources.
 set -u
@@ -24,5 +24,10 @@ faults=(
     "LOCATE (16) and SPACE (16) tell EOM at end of data before the zone too"
     "SPACE over blocks does not tell the filemark that ends it as crossed"
     "LOCATE (16) tells how far it went as crossed"
+    "a mount leaves block length 0"
+    "a mount keeps the block length that was selected before it"
+    "an unload leaves block length 0"
+    "LOAD sets the block length of a mount"
+    "FIXED READ counts a block of another length as read"
 )
 run_with_slips tests/lives/lives.c 200000 "${faults[@]}"

@@ -4,7 +4,8 @@
 #include "compare.h"
 #include "work.h"
 
-/* Mostly small, so that it fills up and objects are few; at times with room for the largest blocks. */
+/* Mostly small, so that it fills up and objects are few; at times with room for one to three blocks of the length that
+ * a mount sets, or a byte or two beside that, and for the largest blocks. */
 static size_t likely_image_length(void)
 {
     uint32_t kind = draw(200);
@@ -14,8 +15,10 @@ static size_t likely_image_length(void)
         return SHORTEST + draw(200);
     if (kind < 184)
         return 200 + draw(500);
-    if (kind < 194)
+    if (kind < 191)
         return 700 + draw(3300);
+    if (kind < 194)
+        return (size_t)near(TRAILER + (1 + draw(3)) * (uint64_t)(ENTRY + MOUNTED_LENGTH));
     return 132000 + draw(9000);
 }
 

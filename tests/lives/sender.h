@@ -146,9 +146,12 @@ static inline void count_change(const struct tape *tape)
 
 static inline void count_writing(const struct writing *writing, uint32_t put)
 {
+    int as_mounted = writing->kind == PUT_BLOCK && !writing->is_variable && latest.by->as_mounted;
     happens(BLOCKS_PUT, put > 0 && writing->is_variable);
     happens(LARGEST_PUT, put > 0 && writing->size == LARGEST_BLOCK);
     happens(FIXED_PUT, put > 1 && writing->kind == PUT_BLOCK);
+    happens(PUT_AS_MOUNTED, as_mounted && put > 1);
+    happens(PARTLY_AS_MOUNTED, as_mounted && put > 0 && put < writing->objects);
     happens(FILEMARKS_PUT, put > 0 && writing->kind == PUT_FILEMARK);
     happens(ALL_IN_THE_ZONE, put == writing->objects && STORMTOGGLE_STATUS(latest.answer) != STORMTOGGLE_GOOD);
     happens(PARTLY_PUT, put > 0 && put < writing->objects);

@@ -76,7 +76,8 @@ static inline void set_count(uint64_t count)
 
 static inline void set_mode_select(void)
 {
-    static const uint32_t lengths[] = {0, 0, 1, 2, 3, 4, 7, 12, 30, 100, 512, LARGEST_BLOCK, LARGEST_BLOCK + 1};
+    static const uint32_t lengths[] = {
+        0, 0, 1, 2, 3, 4, 7, 12, 30, 100, 512, MOUNTED_LENGTH, LARGEST_BLOCK, LARGEST_BLOCK + 1};
     uint32_t length = seen.is_long && one_in(2) ? LARGEST_BLOCK - draw(3) : lengths[draw(COUNT(lengths))];
     uint8_t *block = latest.block.at;
     block[1] = one_in(20) ? 0 : PF;
@@ -110,11 +111,13 @@ static inline void set_locate_16(void)
     put64(block + AT_IDENTIFIER, one_in(12) ? draw_64() : one_in(16) ? BEYOND_32_BITS + number : number);
 }
 
-/* A mostly lawful block of a served code; all else of it is 0. */
+/* A mostly lawful block of a served code; all else of it is 0. FIXED is rare where it is a field error, and where there
+ * is no room for a block of the length that is set, as on most cartridges there is none for that of a mount. */
 static inline void set_block(uint8_t code)
 {
     uint8_t *block = latest.block.at;
-    int fixed = seen.block_length > 0 ? one_in(2) : one_in(30);
+    int fits = seen.block_length <= seen.room || seen.is_long;
+    int fixed = seen.block_length == 0 ? one_in(30) : one_in(fits ? 2 : 10);
     memset(block, 0, sizeof latest.block.at);
     block[0] = code;
     switch (code) {

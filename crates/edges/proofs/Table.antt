@@ -29,8 +29,8 @@ unfolding Edges cases bare64 full ten tenAnd7 tenAnd8 E be bytes over signed wra
     fits32 senseBytes reports told emptySense attentionSense decodeOf encodeOf attentionKnown emptyHanded placed wellFormed wellRecord withSense tooShort inMasks masksHold
     fixedOf siliOf transferOf spaceCodeOf spaceCountOf longOf changesPartition objectOf partitionOf loadOf formOf dbdOf pageOf pfOf allocationOf
     first runOf blocksOf marksOf fitting putFrom eomAtEnd hidden readVariable runTells reading offered goesDown wrote writing marking spaceTells movement spacing targetOf locateTells locating selecting replyOf act eventsOf
-    bytesAsked fieldError taken replyLength needed tests statusOf keptOf stopped acted unless step looksAt seenOf seen inserted laidOut applied stepOf called commandCall
-edges = (refl, (refl, (refl, (refl, (refl, (refl, (refl, (refl, (refl, (refl, (refl, (refl, (refl, (refl, (refl, tt)))))))))))))))
+    bytesAsked fieldError taken replyLength needed tests statusOf keptOf stopped acted unless step looksAt seenOf seen inserted laidOut applied stepOf called commandCall listLengthKnown headerRight descriptorRight listRight
+edges = (refl, (refl, (refl, (refl, (refl, (refl, (refl, (refl, (refl, (refl, (refl, (refl, (refl, (refl, (refl, (refl, tt))))))))))))))))
 
 -- and the cases beside the table
 pub trapped : Traps traps

@@ -49,9 +49,9 @@ mediumChanged = 0x28
 abbrev pub powerOn : ℕ
 powerOn = 0x29
 
--- "block length 0": what a mount sets
+-- what a mount sets: "After a mount the block length shall be 32,768" (Q-3), in place of 01's "block length 0"
 abbrev pub mountedBlockLength : ℕ
-mountedBlockLength = 0
+mountedBlockLength = 32768
 
 -- ---- thirty bytes as a drive, and back
 
@@ -113,7 +113,7 @@ withSense d s = drive (d .loaded) (d .partitions) (d .current) (d .attention) (d
 unfoldable pub freshDrive : Drive
 freshDrive = drive 0 0 0 powerOn 0 0 emptySense
 
--- "Mount sets loaded, 1 or 2 partitions, partition 0, position 0, block length 0, attention 28h, empty sense."
+-- "Mount sets loaded, 1 or 2 partitions, partition 0, position 0, block length 0, attention 28h, empty sense."; Q-3: block length 32,768
 unfoldable pub mountedDrive : ℕ → Drive
 mountedDrive n = drive 1 n 0 mediumChanged 0 mountedBlockLength emptySense
 

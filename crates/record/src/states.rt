@@ -11,7 +11,7 @@ pub const MEDIUM_CHANGED: u8 = 0x28;
 
 pub const POWER_ON: u8 = 0x29;
 
-const MOUNTED_BLOCK_LENGTH: u32 = 0;
+const MOUNTED_BLOCK_LENGTH: u32 = 32768;
 
 fn is_attention(a: u8) -> bool
     ensures { λ r. ⌜ r ≡ attentionKnown a ⌝ }
@@ -106,10 +106,10 @@ pub fn mounted(partitions: u8) -> Drive
 pub fn load_anew(d: Drive) -> Drive
     ensures { λ r. ⌜ r ≡ loadedAnew d ⌝ }
 {
-    let mut e = d;
-    e.current = 0;
-    e.position = 0;
-    e
+    let mut begun = d;
+    begun.current = 0;
+    begun.position = 0;
+    begun
 }
 
 // Unload: nothing loaded; the block length stays.

@@ -57,7 +57,7 @@ static inline void read_variable(struct session *s, int64_t request)
     if (size == request)
         return;
     /* SILI hides the length, except overlength with a nonzero block length. */
-    if (s->block[1] & SILI && (size < request || s->block_length == 0 || FAULT == 9))
+    if (s->block[1] & SILI && (size < request || s->block_length == 0 || FAULT == 9 || slips_as_mounted(s, 148)))
         return;
     tell(s, TOLD_LENGTH, difference);
 }
@@ -70,7 +70,8 @@ static inline int put(struct session *s, int is_filemark, const uint8_t *data, u
     struct tape *tape = &s->tape[s->current];
     uint8_t *image = s->image[s->current];
     uint32_t start = (uint32_t)end_before(tape, s->position), end = (uint32_t)(start + bytes);
-    if (room_at(tape, s->position) < ENTRY + bytes)
+    uint64_t entry = FAULT == 150 && bytes == MOUNTED_LENGTH ? 0 : ENTRY;
+    if (room_at(tape, s->position) < entry + bytes)
         return 0;
     lay_over(image + start, data, bytes);
     put32(image + entry_at(tape->length, s->position), is_filemark ? ENTRY_FILEMARK | end : end);
@@ -125,10 +126,15 @@ static inline void erase(struct session *s)
 
 static inline void load_unload(struct session *s)
 {
+    int loads = s->block[AT_LOAD] & LOAD;
     s->current = 0;
     s->position = 0;
-    if ((s->block[AT_LOAD] & LOAD) == 0)
+    if (!loads)
         s->loaded = s->partitions = 0;
+    if (FAULT == (loads ? 131 : 134))
+        s->block_length = MOUNTED_LENGTH;
+    if (FAULT == (loads ? 132 : 133))
+        s->block_length = 0;
 }
 
 /* ---- what is handed over whole, or cut at the allocation */
@@ -164,7 +170,7 @@ static inline void mode_sense(struct session *s)
     /* As 01 prints them: "0B 00 wp 08" and "03 00 wp 00". */
     uint8_t with_descriptor[MODE_BYTES] = {0x0b, 0x00, wp, 0x08}, header[MODE_HEADER] = {0x03, 0x00, wp, 0x00};
     /* Three bytes of block length; the byte before them is 0, as a block length has no fourth. */
-    put32(with_descriptor + AT_BLOCK_LENGTH - 1, (uint32_t)s->block_length);
+    put32(with_descriptor + AT_BLOCK_LENGTH - 1, slips_as_mounted(s, 147) ? 0 : (uint32_t)s->block_length);
     hand_over(s, mode_bytes(s) == MODE_HEADER ? header : with_descriptor);
 }
 
@@ -185,7 +191,7 @@ static inline void mode_select(struct session *s)
             tell(s, TOLD_LIST, 0);
             return;
         }
-        s->block_length = block_length;
+        s->block_length = FAULT == 146 && block_length == 0 ? MOUNTED_LENGTH : block_length;
     }
     s->carried = length;
 }

@@ -221,6 +221,33 @@ static inline int record_is_well_formed(const uint8_t *record, uint64_t length)
     return loaded == 1 && (partitions == 1 || partitions == 2) && current < partitions;
 }
 
+/* ---- the block length */
+
+/* "After a mount the block length shall be 32,768 and no longer 0", whatever it was. The slips set another one. */
+static inline uint32_t length_mounted(uint32_t before, int partitions)
+{
+    switch (FAULT) {
+    case 135: return 0;
+    case 136: return before;
+    case 137: return before == 0 ? MOUNTED_LENGTH : before;
+    case 138: return partitions == 2 ? 0 : MOUNTED_LENGTH;
+    case 139: return partitions == 1 ? 0 : MOUNTED_LENGTH;
+    case 140: return LARGEST_BLOCK;
+    case 141: return 512;
+    case 142: return MOUNTED_LENGTH - 1;
+    default: return MOUNTED_LENGTH;
+    }
+}
+
+/* Of a record of thirty bytes. */
+static inline uint64_t refused_mount(uint8_t *record, unsigned number)
+{
+    if ((FAULT == 143 && number == BY_LOADED) || (FAULT == 144 && number == BY_UNSOUND) ||
+        (FAULT == 145 && number == BY_LENGTH))
+        put32(record + STORMTOGGLE_RECORD_BLOCK_LENGTH, MOUNTED_LENGTH);
+    return refused(number);
+}
+
 /* ---- the house services, over the library's own slices */
 
 static inline uint64_t model_fresh(uint8_t *record, size_t length)
@@ -228,6 +255,7 @@ static inline uint64_t model_fresh(uint8_t *record, size_t length)
     if (length != RECORD_BYTES)
         return refused(BY_DRIVE);
     memset(record, 0, RECORD_BYTES);
+    put32(record + STORMTOGGLE_RECORD_BLOCK_LENGTH, FAULT == 130 ? MOUNTED_LENGTH : 0);
     record[STORMTOGGLE_RECORD_ATTENTION] = ATTENTION_FRESH;
     memcpy(record + STORMTOGGLE_RECORD_SENSE, nothing_told, SENSE_BYTES);
     return answered(0, 0, left_over(114));
@@ -262,18 +290,21 @@ static inline uint64_t model_mount(uint8_t *record, size_t record_length, const 
 {
     static struct tape tape;
     int second_is_absent = p1_length == 0;
+    uint32_t length_before;
     if (!record_is_well_formed(record, record_length))
         return refused(BY_DRIVE);
     if (record[STORMTOGGLE_RECORD_LOADED] == 1)
-        return refused(BY_LOADED);
+        return refused_mount(record, BY_LOADED);
     if (!length_is_lawful(p0_length) || !(second_is_absent || length_is_lawful(p1_length)))
-        return refused(BY_LENGTH);
+        return refused_mount(record, BY_LENGTH);
     if (!decode(&tape, p0, p0_length) || !(second_is_absent || decode(&tape, p1, p1_length)))
-        return refused(BY_UNSOUND);
+        return refused_mount(record, BY_UNSOUND);
+    length_before = get32(record + STORMTOGGLE_RECORD_BLOCK_LENGTH);
     memset(record, 0, RECORD_BYTES);
     record[STORMTOGGLE_RECORD_LOADED] = 1;
     record[STORMTOGGLE_RECORD_PARTITIONS] = second_is_absent ? 1 : 2;
     record[STORMTOGGLE_RECORD_ATTENTION] = ATTENTION_MOUNTED;
+    put32(record + STORMTOGGLE_RECORD_BLOCK_LENGTH, length_mounted(length_before, second_is_absent ? 1 : 2));
     memcpy(record + STORMTOGGLE_RECORD_SENSE, nothing_told, SENSE_BYTES);
     return answered(0, 0, left_over(114));
 }

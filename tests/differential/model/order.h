@@ -221,6 +221,17 @@ static inline int destination_is_wrong(const uint8_t *block)
     return destination != TO_OBJECT && destination != TO_FILE && destination != TO_END;
 }
 
+/* The slips of a drive with the length that a mount sets. */
+static inline int slips_as_mounted(const struct session *s, int fault)
+{
+    return FAULT == fault && s->block_length == MOUNTED_LENGTH;
+}
+
+static inline int has_no_length(const struct session *s)
+{
+    return s->block_length == 0 || slips_as_mounted(s, 149);
+}
+
 static inline int fields_are_wrong(const struct session *s, const struct served *served)
 {
     const uint8_t *block = s->block;
@@ -228,8 +239,8 @@ static inline int fields_are_wrong(const struct session *s, const struct served 
         if (block[i] & ~served->mask[i])
             return 1;
     switch (block[0]) {
-    case READ: return is_fixed(block) && (block[1] & SILI || s->block_length == 0);
-    case WRITE: return is_fixed(block) ? s->block_length == 0 : count_of(block) > LARGEST_BLOCK;
+    case READ: return is_fixed(block) && (block[1] & SILI || has_no_length(s));
+    case WRITE: return is_fixed(block) ? has_no_length(s) : count_of(block) > LARGEST_BLOCK;
     case SPACE: case SPACE_16: return block[1] != BLOCKS && block[1] != FILEMARKS && block[1] != TO_END_OF_DATA;
     case MODE_SELECT: return (block[1] & PF) == 0;
     case MODE_SENSE: return block[AT_PAGE] != PAGE_NONE && block[AT_PAGE] != PAGE_ALL;
