@@ -4,3 +4,4 @@ pub mod Sixteen
 pub mod EndOfData
 pub mod Crossed
 pub mod Merged
+pub mod Mounted

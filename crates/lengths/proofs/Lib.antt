@@ -1,0 +1,4 @@
+pub mod Calls
+pub mod Setting
+pub mod Uses
+pub mod Heeded
