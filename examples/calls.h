@@ -75,7 +75,7 @@ static inline void blank(struct drive *d, int partition)
 static inline void mount(struct drive *d)
 {
     const struct partition *p = d->tape;
-    ask(d, "mount both partitions");
+    ask(d, "mount %s", p[1].length == 0 ? "one partition" : "both partitions");
     log_done(d, stormtoggle_mount(d->record, sizeof d->record, p[0].image, p[0].length, p[1].image, p[1].length));
 }
 
@@ -101,19 +101,19 @@ static inline const uint8_t *view(struct drive *d, int partition, uint32_t objec
 
 enum {
     TEST_UNIT_READY = 0x00, REWIND = 0x01, REQUEST_SENSE = 0x03, READ = 0x08, WRITE = 0x0a, WRITE_FILEMARKS = 0x10,
-    SPACE = 0x11, MODE_SELECT = 0x15, LOAD_UNLOAD = 0x1b, LOCATE = 0x2b, READ_POSITION = 0x34, SPACE_16 = 0x91,
-    LOCATE_16 = 0x92
+    SPACE = 0x11, MODE_SELECT = 0x15, MODE_SENSE = 0x1a, LOAD_UNLOAD = 0x1b, LOCATE = 0x2b, READ_POSITION = 0x34,
+    SPACE_16 = 0x91, LOCATE_16 = 0x92
 };
 
 /* Command blocks have six bytes, LOCATE's and READ POSITION's ten; some come in sixteen as well. */
 enum { SIX = 6, TEN = 10, SIXTEEN = 16 };
 
 /* Byte 1 of a command block. */
-enum { FIXED = 0x01, CHANGE_PARTITION = 0x02, LONG_FORM = 0x06, PAGE_FORMAT = 0x10 };
+enum { FIXED = 0x01, HIDE_LENGTH = 0x02, CHANGE_PARTITION = 0x02, LONG_FORM = 0x06, PAGE_FORMAT = 0x10 };
 enum space_code { BLOCKS = 0, FILEMARKS = 1, TO_END_OF_DATA = 3 };
 enum destination { TO_OBJECT = 0, TO_FILE = 1, TO_END = 3, DESTINATION_SHIFT = 3 };
 
-/* MODE SELECT's list: the lengths of its two parts. */
+/* The mode data, and MODE SELECT's list: the lengths of its two parts; the block length is its last three bytes. */
 enum { HEADER = 4, DESCRIPTOR = 8 };
 
 #define BYTE(number, shift) ((uint8_t)((uint64_t)(number) >> (shift)))
@@ -173,6 +173,14 @@ static inline void read_block(struct drive *d, uint8_t *bytes, uint32_t length)
     carry_out(d, command, sizeof command, RECEIVE(bytes, length));
 }
 
+/* With SILI: a block of another length than is asked for is not told where the drive may hide it. */
+static inline void read_hiding(struct drive *d, uint8_t *bytes, uint32_t length)
+{
+    const uint8_t command[SIX] = {READ, HIDE_LENGTH, THREE_BYTES(length)};
+    ask(d, "READ SILI %u bytes", (unsigned)length);
+    carry_out(d, command, sizeof command, RECEIVE(bytes, length));
+}
+
 static inline void write_block(struct drive *d, const uint8_t *bytes, uint32_t length)
 {
     const uint8_t command[SIX] = {WRITE, 0, THREE_BYTES(length)};
@@ -181,12 +189,23 @@ static inline void write_block(struct drive *d, const uint8_t *bytes, uint32_t l
 }
 
 /* Many blocks of the length that is set, which the record tells. */
+static inline size_t fixed_bytes(const struct drive *d, uint32_t count)
+{
+    return count * (size_t)number_at(d->record + STORMTOGGLE_RECORD_BLOCK_LENGTH);
+}
+
 static inline void write_fixed(struct drive *d, const uint8_t *bytes, uint32_t count)
 {
     const uint8_t command[SIX] = {WRITE, FIXED, THREE_BYTES(count)};
-    size_t block_length = number_at(d->record + STORMTOGGLE_RECORD_BLOCK_LENGTH);
     ask(d, "WRITE FIXED %u blocks", (unsigned)count);
-    carry_out(d, command, sizeof command, SEND(bytes, count * block_length));
+    carry_out(d, command, sizeof command, SEND(bytes, fixed_bytes(d, count)));
+}
+
+static inline void read_fixed(struct drive *d, uint8_t *bytes, uint32_t count)
+{
+    const uint8_t command[SIX] = {READ, FIXED, THREE_BYTES(count)};
+    ask(d, "READ FIXED %u blocks", (unsigned)count);
+    carry_out(d, command, sizeof command, RECEIVE(bytes, fixed_bytes(d, count)));
 }
 
 static inline void write_filemarks(struct drive *d, uint32_t count)
@@ -255,6 +274,18 @@ static inline void set_block_length(struct drive *d, uint32_t length)
     const uint8_t command[SIX] = {MODE_SELECT, PAGE_FORMAT, 0, 0, sizeof list};
     ask(d, "MODE SELECT block length %u", (unsigned)length);
     carry_out(d, command, sizeof command, SEND(list, sizeof list));
+}
+
+/* What a host's driver goes by: the block length of the mode data. */
+static inline uint32_t sense_block_length(struct drive *d)
+{
+    uint8_t data[HEADER + DESCRIPTOR] = {0};
+    const uint8_t command[SIX] = {MODE_SENSE, 0, 0, 0, sizeof data};
+    ask(d, "MODE SENSE");
+    carry_out(d, command, sizeof command, RECEIVE(data, sizeof data));
+    uint32_t length = number_at(data + sizeof data - 4) & 0xffffff;
+    printf("    it tells: block length %u\n", (unsigned)length);
+    return length;
 }
 
 static inline void unload(struct drive *d)

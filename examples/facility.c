@@ -1,9 +1,10 @@
-/* facility.c: a facility's day on a cartridge of two mapped files, from power-on to unload; its calls are in calls.h.
+/* facility.c: a facility's day on cartridges in mapped files, from power-on to unload; its calls are in calls.h.
  *
- *   facility TILES INDEX
+ *   facility TILES INDEX TIER
  *
- * Both files are made anew. TILES is partition 0: cycles of tiles, a filemark after each. INDEX is partition 1, and is
- * document 01's example E in the end. What is not as it must be ends the day with a line that says so.
+ * The files are made anew. TILES is partition 0 of a cartridge: cycles of tiles, a filemark after each. INDEX is its
+ * partition 1, and is document 01's example E in the end. TIER is a second cartridge, of one partition. What is not as
+ * it must be ends the day with a line that says so.
  */
 #define _POSIX_C_SOURCE 200809L
 #include "calls.h"
@@ -20,6 +21,9 @@
 /* The listing program takes 65,536 bytes at most. In as many, early warning comes one tile before the end. */
 enum { TILES = 0, INDEX = 1, TILES_LENGTH = 65536, INDEX_LENGTH = STORMTOGGLE_SHORTEST_IMAGE };
 enum { TILE = 3840, CYCLES = 3, BATCH = 5 };
+
+/* A tier's tiles are blocks of the length that a mount sets. */
+enum { TIER_TILE = STORMTOGGLE_MOUNTED_BLOCK_LENGTH, TIER = 4, TIER_LENGTH = 6 * TIER_TILE };
 
 /* The index: how many tiles each cycle has. With a filemark after each cycle it tells where every tile stands. */
 static const uint8_t tiles_of[CYCLES] = {1, 2, 3};
@@ -89,10 +93,15 @@ static void expect_good(const struct drive *d, int partition, long object)
 /* ---- the day's tiles */
 
 /* The tiles of a day differ, so that one read in place of another shows. */
+static void fill_tile(uint8_t *tile, unsigned length, unsigned cycle, unsigned number)
+{
+    for (unsigned i = 0; i < length; i++)
+        tile[i] = (uint8_t)(i + i / 256 + 16 * cycle + number);
+}
+
 static void make_tile(uint8_t *tile, unsigned cycle, unsigned number)
 {
-    for (unsigned i = 0; i < TILE; i++)
-        tile[i] = (uint8_t)(i + i / 256 + 16 * cycle + number);
+    fill_tile(tile, TILE, cycle, number);
 }
 
 /* Cycles and tiles count from 1, objects from 0. */
@@ -375,6 +384,69 @@ static void close_the_day(struct drive *d)
     expect(d, MEDIUM_NOT_PRESENT, 0, 0, 0);
 }
 
+/* Operators forget MODE SELECT: here none is sent. The drive has the length that was set for the last cartridge, and
+ * the mount sets its own; a driver that asks is told that one, and writes blocks of it. */
+static void write_a_tier(struct drive *d, struct partition tier)
+{
+    static uint8_t tiles[TIER * TIER_TILE], back[(TIER + 1) * TIER_TILE];
+    size_t length;
+    puts("\nAnother cartridge: a tier of tiles in fixed blocks, with no MODE SELECT");
+    d->tape[0] = tier;
+    d->tape[1] = (struct partition){NULL, 0};
+    blank(d, 0);
+    expect_refusal(d, 0);
+    must_equal(d, "the block length before", number_at(d->record + STORMTOGGLE_RECORD_BLOCK_LENGTH), TILE);
+    mount(d);
+    expect_refusal(d, 0);
+    test_unit_ready(d);
+    expect(d, MEDIUM_CHANGED, 0, 0, 0);
+    must_equal(d, "the block length told", sense_block_length(d), TIER_TILE);
+    expect_good(d, 0, 0);
+    for (unsigned number = 0; number < TIER; number++)
+        fill_tile(tiles + number * TIER_TILE, TIER_TILE, CYCLES + 2, number);
+    write_fixed(d, tiles, TIER);
+    expect_good(d, 0, TIER);
+    expect_carried(d, sizeof tiles);
+    write_filemarks(d, 1);
+    expect_good(d, 0, TIER + 1);
+    rewind_tape(d);
+    expect_good(d, 0, 0);
+    read_fixed(d, back, TIER + 1);
+    expect(d, FILEMARK_DETECTED, 1, 0, TIER + 1);
+    expect_carried(d, sizeof tiles);
+    expect_bytes(d, back, tiles, sizeof tiles);
+    const uint8_t *tile = view(d, 0, 2, &length);
+    must_equal(d, "the block's length", (long)length, TIER_TILE);
+    expect_bytes(d, tile, tiles + 2 * TIER_TILE, TIER_TILE);
+    printf("    compared: read and viewed, these are the bytes of the tier's %d tiles\n", TIER);
+}
+
+/* A host that writes variable blocks is not stopped. But it has to select length 0 for SILI to hide a longer block. */
+static void write_variable_blocks(struct drive *d)
+{
+    enum { RECORD = 10240, PART = 4096 };
+    uint8_t record[RECORD], part[PART];
+    puts("\nA host there that writes variable blocks");
+    fill_tile(record, RECORD, CYCLES + 3, 0);
+    write_block(d, record, RECORD);
+    expect_good(d, 0, TIER + 2);
+    expect_carried(d, RECORD);
+    space(d, BLOCKS, -1);
+    expect_good(d, 0, TIER + 1);
+    read_hiding(d, part, PART);
+    expect(d, WRONG_LENGTH, PART - RECORD, 0, TIER + 2);
+    space(d, BLOCKS, -1);
+    expect_good(d, 0, TIER + 1);
+    set_block_length(d, 0);
+    expect_good(d, 0, TIER + 1);
+    read_hiding(d, part, PART);
+    expect_good(d, 0, TIER + 2);
+    expect_carried(d, PART);
+    expect_bytes(d, part, record, PART);
+    unload(d);
+    expect_good(d, 0, 0);
+}
+
 /* ---- the files */
 
 static void stop(const char *name)
@@ -398,11 +470,13 @@ static struct partition map_partition(const char *name, size_t length)
 
 int main(int count, char **words)
 {
-    if (count != 3) {
-        fprintf(stderr, "usage: facility TILES INDEX\n");
+    if (count != 4) {
+        fprintf(stderr, "usage: facility TILES INDEX TIER\n");
         return EXIT_FAILURE;
     }
-    struct drive d = {.tape = {map_partition(words[1], TILES_LENGTH), map_partition(words[2], INDEX_LENGTH)}};
+    const struct partition files[] = {map_partition(words[1], TILES_LENGTH), map_partition(words[2], INDEX_LENGTH),
+                                      map_partition(words[3], TIER_LENGTH)};
+    struct drive d = {.tape = {files[TILES], files[INDEX]}};
     log_heading();
     open_the_day(&d);
     write_cycles(&d);
@@ -414,8 +488,10 @@ int main(int count, char **words)
     wind(&d);
     send_as_one(&d);
     close_the_day(&d);
-    for (int i = TILES; i <= INDEX; i++)
-        if (msync(d.tape[i].image, d.tape[i].length, MS_SYNC) != 0 || munmap(d.tape[i].image, d.tape[i].length) != 0)
+    write_a_tier(&d, files[2]);
+    write_variable_blocks(&d);
+    for (size_t i = 0; i < sizeof files / sizeof *files; i++)
+        if (msync(files[i].image, files[i].length, MS_SYNC) != 0 || munmap(files[i].image, files[i].length) != 0)
             stop(words[1 + i]);
     return EXIT_SUCCESS;
 }
