@@ -106,8 +106,9 @@ uint64_t stormtoggle_fresh(uint8_t *record, size_t record_len);
  *     for, of any length that a block may have;
  *   - SILI hides a block shorter than a READ asks for, and not one that is longer: ILI and a negative residue tell it;
  *   - MODE SENSE tells 32,768, so a host whose driver takes its block length from there, as Linux's st does, writes
- *     fixed blocks; st itself then refuses a transfer that is no multiple of 32,768 bytes, as GNU tar's of 10,240.
- * docs/BLOCK_LENGTH.md tells what a host then does. */
+ *     fixed blocks: GNU tar's default record of 10,240 bytes is then refused by that driver, until `mt setblk 0` or a
+ *     blocking factor of 64 (32,768 bytes).
+ * docs/BLOCK_LENGTH.md has more of it. */
 uint64_t stormtoggle_mount(uint8_t *record, size_t record_len, const uint8_t *p0, size_t p0_len, const uint8_t *p1,
                            size_t p1_len);
 

@@ -13,7 +13,7 @@ use lib.ListN.{length, drop, getElem?}
 use Rattle.words.specs.Words.{be, bytes}
 use Rattle.words.proofs.Laws.{be-bytes}
 use Rattle.answers.specs.declared.Answer.{Answer}
-use Rattle.answers.specs.Answers.{commandShort, recordFault, refused, done, settled, first, refusalOf}
+use Rattle.answers.specs.Answers.{commandShort, recordFault, refused, done, settled, settledBy, first, refusalOf}
 use Rattle.objects.specs.Object.{Object, filemark, block}
 use Rattle.objects.specs.Transfer.{runOf}
 use Rattle.image.proofs.Tests.{both}
@@ -56,29 +56,28 @@ made-length : (n : ℕ) → lengthIn (encodeOf (mountedDrive n)) ≡ mountedBloc
 unfolding mountedDrive
 made-length n = length-back (mountedDrive n) (omega arith)
 
-module _ (rec p0 p1 : List ℕ) where
-  pub mounted-length : mountCall rec p0 p1 .answer ≡ done → (lengthIn (mountCall rec p0 p1 .lent) ≡ 32768) × (lengthBytes (mountCall rec p0 p1 .lent) ≡ 0x00 ∷ 0x00 ∷ 0x80 ∷ 0x00 ∷ [])
-  unfolding mountCall
-  mounted-length h = go (eqb (mountFault rec p0 p1) 0) refl h
-    where
-      made : List ℕ
-      made = encodeOf (mountedDrive (partitionsOf p1))
+-- a house service that is done leaves what it makes
+leaves-made : (k : ℕ) (lent made : List ℕ) → settledBy k lent made .answer ≡ done → settledBy k lent made .lent ≡ made
+leaves-made k lent made h = go (eqb k 0) refl h
+  where
+    go : (t : Bool) → eqb k 0 ≡ t → (cond t (settled done made) (settled (refused k) lent)) .answer ≡ done → (cond t (settled done made) (settled (refused k) lent)) .lent ≡ made
+    go true e a = refl
+    go false e a = absurd (eqb-false k 0 e (ap (λ (y : Answer). y .refusal) a))
 
-      go : (t : Bool) → eqb (mountFault rec p0 p1) 0 ≡ t → (cond t (settled done made) (settled (refused (mountFault rec p0 p1)) rec)) .answer ≡ done
-          → (lengthIn ((cond t (settled done made) (settled (refused (mountFault rec p0 p1)) rec)) .lent) ≡ 32768)
-          × (lengthBytes ((cond t (settled done made) (settled (refused (mountFault rec p0 p1)) rec)) .lent) ≡ 0x00 ∷ 0x00 ∷ 0x80 ∷ 0x00 ∷ [])
-      go true e a = (made-length (partitionsOf p1), unfold mountedDrive encodeOf bytes in refl)
-      go false e a = absurd (eqb-false (mountFault rec p0 p1) 0 e (ap (λ (y : Answer). y .refusal) a))
+pub mounted-length : (rec p0 p1 : List ℕ) → mountCall rec p0 p1 .answer ≡ done
+    → (lengthIn (mountCall rec p0 p1 .lent) ≡ 32768) × (lengthBytes (mountCall rec p0 p1 .lent) ≡ 0x00 ∷ 0x00 ∷ 0x80 ∷ 0x00 ∷ [])
+unfolding mountCall
+mounted-length rec p0 p1 h =
+    let m = leaves-made (mountFault rec p0 p1) rec (encodeOf (mountedDrive (partitionsOf p1))) h in
+    (ap lengthIn m ∙ made-length (partitionsOf p1), ap lengthBytes m ∙ spelt (partitionsOf p1))
+  where
+    spelt : (n : ℕ) → lengthBytes (encodeOf (mountedDrive n)) ≡ 0x00 ∷ 0x00 ∷ 0x80 ∷ 0x00 ∷ []
+    spelt n = unfold mountedDrive encodeOf bytes in refl
 
 -- a fresh record has 0, as 01 has it
 pub fresh-length : (rec : List ℕ) → freshCall rec .answer ≡ done → lengthIn (freshCall rec .lent) ≡ 0
-unfolding freshCall
-fresh-length rec h = go (eqb (refusalOf (first (freshTests rec))) 0) refl h
-  where
-    go : (t : Bool) → eqb (refusalOf (first (freshTests rec))) 0 ≡ t → (cond t (settled done (encodeOf freshDrive)) (settled (refused (refusalOf (first (freshTests rec)))) rec)) .answer ≡ done
-        → lengthIn ((cond t (settled done (encodeOf freshDrive)) (settled (refused (refusalOf (first (freshTests rec)))) rec)) .lent) ≡ 0
-    go true e a = unfold freshDrive in length-back freshDrive (omega arith)
-    go false e a = absurd (eqb-false (refusalOf (first (freshTests rec))) 0 e (ap (λ (y : Answer). y .refusal) a))
+unfolding freshCall freshDrive
+fresh-length rec h = ap lengthIn (leaves-made (refusalOf (first (freshTests rec))) rec (encodeOf freshDrive) h) ∙ length-back freshDrive (omega arith)
 
 -- ---- and no command but MODE SELECT sets another
 
