@@ -109,7 +109,7 @@ enum {
 enum { SIX = 6, TEN = 10, SIXTEEN = 16 };
 
 /* Byte 1 of a command block. */
-enum { FIXED = 0x01, HIDE_LENGTH = 0x02, CHANGE_PARTITION = 0x02, LONG_FORM = 0x06, PAGE_FORMAT = 0x10 };
+enum { FIXED = 0x01, SILI = 0x02, CHANGE_PARTITION = 0x02, LONG_FORM = 0x06, PAGE_FORMAT = 0x10 };
 enum space_code { BLOCKS = 0, FILEMARKS = 1, TO_END_OF_DATA = 3 };
 enum destination { TO_OBJECT = 0, TO_FILE = 1, TO_END = 3, DESTINATION_SHIFT = 3 };
 
@@ -174,9 +174,9 @@ static inline void read_block(struct drive *d, uint8_t *bytes, uint32_t length)
 }
 
 /* With SILI: a block of another length than is asked for is not told where the drive may hide it. */
-static inline void read_hiding(struct drive *d, uint8_t *bytes, uint32_t length)
+static inline void read_sili(struct drive *d, uint8_t *bytes, uint32_t length)
 {
-    const uint8_t command[SIX] = {READ, HIDE_LENGTH, THREE_BYTES(length)};
+    const uint8_t command[SIX] = {READ, SILI, THREE_BYTES(length)};
     ask(d, "READ SILI %u bytes", (unsigned)length);
     carry_out(d, command, sizeof command, RECEIVE(bytes, length));
 }

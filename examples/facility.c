@@ -23,7 +23,7 @@ enum { TILES = 0, INDEX = 1, TILES_LENGTH = 65536, INDEX_LENGTH = STORMTOGGLE_SH
 enum { TILE = 3840, CYCLES = 3, BATCH = 5 };
 
 /* A tier's tiles are blocks of the length that a mount sets. */
-enum { TIER_TILE = STORMTOGGLE_MOUNTED_BLOCK_LENGTH, TIER = 4, TIER_LENGTH = 6 * TIER_TILE };
+enum { TIER_TILE = STORMTOGGLE_MOUNTED_BLOCK_LENGTH, TIER_TILES = 4, TIER_LENGTH = (TIER_TILES + 2) * TIER_TILE };
 
 /* The index: how many tiles each cycle has. With a filemark after each cycle it tells where every tile stands. */
 static const uint8_t tiles_of[CYCLES] = {1, 2, 3};
@@ -388,7 +388,7 @@ static void close_the_day(struct drive *d)
  * the mount sets its own; a driver that asks is told that one, and writes blocks of it. */
 static void write_a_tier(struct drive *d, struct partition tier)
 {
-    static uint8_t tiles[TIER * TIER_TILE], back[(TIER + 1) * TIER_TILE];
+    static uint8_t tiles[TIER_TILES * TIER_TILE], back[(TIER_TILES + 1) * TIER_TILE];
     size_t length;
     puts("\nAnother cartridge: a tier of tiles in fixed blocks, with no MODE SELECT");
     d->tape[0] = tier;
@@ -402,23 +402,23 @@ static void write_a_tier(struct drive *d, struct partition tier)
     expect(d, MEDIUM_CHANGED, 0, 0, 0);
     must_equal(d, "the block length told", sense_block_length(d), TIER_TILE);
     expect_good(d, 0, 0);
-    for (unsigned number = 0; number < TIER; number++)
+    for (unsigned number = 0; number < TIER_TILES; number++)
         fill_tile(tiles + number * TIER_TILE, TIER_TILE, CYCLES + 2, number);
-    write_fixed(d, tiles, TIER);
-    expect_good(d, 0, TIER);
+    write_fixed(d, tiles, TIER_TILES);
+    expect_good(d, 0, TIER_TILES);
     expect_carried(d, sizeof tiles);
     write_filemarks(d, 1);
-    expect_good(d, 0, TIER + 1);
+    expect_good(d, 0, TIER_TILES + 1);
     rewind_tape(d);
     expect_good(d, 0, 0);
-    read_fixed(d, back, TIER + 1);
-    expect(d, FILEMARK_DETECTED, 1, 0, TIER + 1);
+    read_fixed(d, back, TIER_TILES + 1);
+    expect(d, FILEMARK_DETECTED, 1, 0, TIER_TILES + 1);
     expect_carried(d, sizeof tiles);
     expect_bytes(d, back, tiles, sizeof tiles);
     const uint8_t *tile = view(d, 0, 2, &length);
     must_equal(d, "the block's length", (long)length, TIER_TILE);
     expect_bytes(d, tile, tiles + 2 * TIER_TILE, TIER_TILE);
-    printf("    compared: read and viewed, these are the bytes of the tier's %d tiles\n", TIER);
+    printf("    compared: read and viewed, these are the bytes of the tier's %d tiles\n", TIER_TILES);
 }
 
 /* A host that writes variable blocks is not stopped. But it has to select length 0 for SILI to hide a longer block. */
@@ -429,18 +429,18 @@ static void write_variable_blocks(struct drive *d)
     puts("\nA host there that writes variable blocks");
     fill_tile(record, RECORD, CYCLES + 3, 0);
     write_block(d, record, RECORD);
-    expect_good(d, 0, TIER + 2);
+    expect_good(d, 0, TIER_TILES + 2);
     expect_carried(d, RECORD);
     space(d, BLOCKS, -1);
-    expect_good(d, 0, TIER + 1);
-    read_hiding(d, part, PART);
-    expect(d, WRONG_LENGTH, PART - RECORD, 0, TIER + 2);
+    expect_good(d, 0, TIER_TILES + 1);
+    read_sili(d, part, PART);
+    expect(d, WRONG_LENGTH, PART - RECORD, 0, TIER_TILES + 2);
     space(d, BLOCKS, -1);
-    expect_good(d, 0, TIER + 1);
+    expect_good(d, 0, TIER_TILES + 1);
     set_block_length(d, 0);
-    expect_good(d, 0, TIER + 1);
-    read_hiding(d, part, PART);
-    expect_good(d, 0, TIER + 2);
+    expect_good(d, 0, TIER_TILES + 1);
+    read_sili(d, part, PART);
+    expect_good(d, 0, TIER_TILES + 2);
     expect_carried(d, PART);
     expect_bytes(d, part, record, PART);
     unload(d);

@@ -27,7 +27,7 @@ use Rattle.edges.specs.Sixteen.{sixteens}
 use Rattle.edges.specs.EndOfData.{onSide, beforeTheZone, inTheZone, acrossTheZone}
 use Rattle.edges.specs.Crossed.{spaced, onTwo, notSpaced, notBySpace}
 use Rattle.edges.specs.Merged.{merges, doesNotMerge}
-use Rattle.edges.specs.Mounted.{Mountings, mountings, FreshLeaves0, afterAMount, heeding, others, twoOfThem}
+use Rattle.edges.specs.Mounted.{Mountings, mountings, FreshLeaves0, afterAMount, heeding, others, heedingAt0}
 
 pub mounted-so : Mountings mountings
 unfolding Mountings mountings bare64 E be bytes count flags protected directory size entry topBit low31 endAt follows ordered rightLength sound
@@ -49,6 +49,6 @@ unfolding Traps afterAMount bare64 E be bytes over signed wrapped bytesIn M.resi
     modeData listLengthKnown headerRight descriptorRight listRight
 started-so = (refl, (refl, (refl, (refl, (refl, (refl, (refl, (refl, (refl, (refl, (refl, (refl, (refl, (refl, (refl, (refl, (refl, (refl, (refl, (refl, (refl, (refl, (refl, (refl, tt))))))))))))))))))))))))
 
-pub two-of-them : heeding others ≡ twoOfThem
+pub heeding-at-0 : heeding others ≡ heedingAt0
 unfolding heeding traps sixteens beforeTheZone inTheZone acrossTheZone onSide spaced onTwo notSpaced notBySpace merges doesNotMerge be bytes decodeOf fixedOf siliOf dbdOf
-two-of-them = refl
+heeding-at-0 = refl

@@ -141,5 +141,5 @@ abbrev pub others : List Trap
 others = traps ++ sixteens ++ beforeTheZone ++ inTheZone ++ acrossTheZone ++ spaced ++ onTwo ++ notSpaced ++ notBySpace ++ together merges ++ together doesNotMerge
 
 -- FIXED with nothing loaded, which with 32,768 is no field error (above); and SILI over a shorter block, which with 32,768 is hidden too (above)
-abbrev pub twoOfThem : List (List ℕ)
-twoOfThem = six 0x08 1 1 ∷ six 0x08 2 5 ∷ []
+abbrev pub heedingAt0 : List (List ℕ)
+heedingAt0 = six 0x08 1 1 ∷ six 0x08 2 5 ∷ []

@@ -31,10 +31,9 @@ use Rattle.commands.specs.Call.{Lent, lent, Result, result, partition, looksAt,
 use Rattle.commands.specs.Conditions.{FieldWrong}
 use Rattle.commands.proofs.Ends.{call-acts}
 use Rattle.commands.proofs.Goes.{has-cartridge}
-use Rattle.commands.proofs.Faultless.{inside, seen-there}
 use Rattle.history.specs.History.{Cartridge}
 use Rattle.history.proofs.Ended.{Finished, by-number, by-sense, by-act, ended}
-use Rattle.history.proofs.Acted.{idle}
+use Rattle.history.proofs.Acted.{idle, sees}
 use Rattle.lengths.specs.Lengths.{lengthIn, besides, Twins, Fixed, Silent, BlockThere, MeetsLonger, longerMet}
 use Rattle.lengths.proofs.Calls.{bareDeed, same-read, fixed-tests, same-call}
 
@@ -112,8 +111,8 @@ module _ (rec cmd p0 p1 sent received bs : List ℕ) where
       go (by-number m h q c) = not-stopped _ q
       go (by-sense t q g b w p l c) = not-stopped t q
       go (by-act q w t c) =
-          let l : f .loaded ≡ 0 → ⊥ = has-cartridge f cmd sent (length received) (seen Read f x) Read refl (subst (λ (p : Operation). first (tests p f cmd (seen p f x) sent (length received)) ≡ none) is t) in
-          seen-there Read f x (inside f p0 p1 (w .cart) l .there)
+          let u = subst (λ (p : Operation). first (tests p f cmd (seen p f x) sent (length received)) ≡ none) is t in
+          sees rec x w Read u refl (has-cartridge f cmd sent (length received) (seen Read f x) Read refl u)
 
   pub longer-met : MeetsLonger rec (lent cmd p0 p1 sent received) bs → commandCall rec (lent cmd p0 p1 sent received) ≡ longerMet rec (lent cmd p0 p1 sent received) bs (eqb (lengthIn rec) 0)
   unfolding applied acted

@@ -4,19 +4,21 @@
 use Prim.Native.Nat.{ℕ, _≤_}
 use native.Mathlib.Omega.{arith}
 use mathlib.Core.Path.{_≡_, refl, sym, ap, ap₂, _∙_, subst}
+use mathlib.Core.Logic.{_≢_, _⊎_, inl, inr}
 use mathlib.Core.Bool.{Bool, true, false, cond, _&&_}
 use mathlib.Core.List.{List, [], _∷_}
-use borrow.Author.Tests.{le-leb, not-true}
+use borrow.Author.Tests.{eqb-true, le-leb, not-true}
 use lib.Dec.{eqb, leb}
+use lib.ListN.{length}
 use Rattle.words.specs.Words.{bytes}
 use Rattle.answers.specs.declared.Answer.{Answer}
 use Rattle.answers.specs.Answers.{Settled, settled, settledBy, refused, done}
 use Rattle.objects.specs.Object.{largestBlock}
 use Rattle.image.specs.Image.{absent}
 use Rattle.image.proofs.Tests.{both}
-use Rattle.sense.specs.Sense.{senseBytes, emptySense}
+use Rattle.sense.specs.Sense.{senseLength, senseBytes, emptySense}
 use Rattle.record.specs.declared.drive.Drive.{Drive}
-use Rattle.record.specs.Record.{mountedBlockLength, decodeOf, encodeOf, attentionKnown, placed, wellFormed, wellRecord, mountedDrive}
+use Rattle.record.specs.Record.{mountedBlockLength, decodeOf, encodeOf, attentionKnown, placed, wellFormed, wellRecord, mountedDrive, withSense}
 use Rattle.record.proofs.RoundTrip.{decode-encode}
 use Rattle.codes.specs.declared.operation.Operation.the-variants.{ModeSelect}
 use Rattle.codes.specs.Codes.{codeOf, operationOf}
@@ -25,8 +27,8 @@ use Rattle.house.specs.Mount.{partitionsOf, mountFault}
 use Rattle.commands.specs.Parameters.{wholeLength, newLength}
 use Rattle.commands.specs.Act.{withLength, Deed, act}
 use Rattle.commands.specs.Step.{keptOf, acted}
-use Rattle.commands.specs.Call.{Lent, lent, Outcome, Result, seen, applied, commandCall}
-use Rattle.commands.proofs.Faultless.{no-fault, kept-whole, empty-whole}
+use Rattle.commands.specs.Call.{Lent, lent, Outcome, Result, result, seen, applied, commandCall}
+use Rattle.commands.proofs.Faultless.{Well, back, place-small, no-fault, kept-whole, empty-whole}
 use Rattle.history.specs.History.{isGood, Cartridge, cartridge, after}
 use Rattle.history.specs.Always.{Use, sends, mounts, protects, callOf, recordAfter}
 use Rattle.history.proofs.Ended.{Finished, by-number, by-sense, by-act, ended}
@@ -35,24 +37,48 @@ use Rattle.lengths.specs.Lengths.{besides, lengthAfter, heeds, Twins, Tu
 use Rattle.lengths.proofs.Calls.{encoded-but, unheeded}
 use Rattle.lengths.proofs.Setting.{mounts-so, sets}
 
--- ---- a command leaves a well-formed record well formed
+-- ---- what a command leaves of a record: refused, the record as it was; else that of a drive, which is well formed
 
-well-after : (rec : List ℕ) (x : Lent) → wellRecord rec ≡ true → wellRecord (commandCall rec x .rec) ≡ true
+record Made (s : List ℕ) : Type 0 where
+  pub drive : Drive
+  pub sense : List ℕ
+  pub part0 : List ℕ
+  pub part1 : List ℕ
+  pub well : Well drive part0 part1
+  pub whole : length sense ≡ senseLength
+  pub is : s ≡ encodeOf (withSense drive sense)
+
+left-or-made : (rec : List ℕ) (x : Lent) → ((commandCall rec x .answer .refusal ≢ 0) × (commandCall rec x .rec ≡ rec)) ⊎ Made (commandCall rec x .rec)
 unfolding applied acted
-well-after rec x h = go (ended rec (x .cmd) (x .part0) (x .part1) (x .sent) (x .received))
+left-or-made rec x = go (ended rec (x .cmd) (x .part0) (x .part1) (x .sent) (x .received))
   where
-    is-well : Result → Bool
-    is-well r = wellRecord (r .rec)
-
-    go : Finished rec (x .cmd) (x .part0) (x .part1) (x .sent) (x .received) → wellRecord (commandCall rec x .rec) ≡ true
-    go (by-number n k e q) = ap is-well q ∙ h
-    go (by-sense s e f b w p l q) = ap is-well q ∙ both _ _ (no-fault f b (x .part0) (x .part1) w l) .0
+    go : Finished rec (x .cmd) (x .part0) (x .part1) (x .sent) (x .received) → ((commandCall rec x .answer .refusal ≢ 0) × (commandCall rec x .rec ≡ rec)) ⊎ Made (commandCall rec x .rec)
+    go (by-number n k e q) = inl ((λ h. let z : n ≡ 0 = sym (ap (λ (r : Result). r .answer .refusal) q) ∙ h in omega arith), ap (λ (r : Result). r .rec) q)
+    go (by-sense s e f b w p l q) = inr (record { drive = f; sense = b; part0 = x .part0; part1 = x .part1; well = w; whole = l; is = ap (λ (r : Result). r .rec) q })
     go (by-act e w t q) =
         let o = operationOf (codeOf (x .cmd)) in
         let y : Deed = act o (decodeOf rec) (x .cmd) (x .sent) (seen o (decodeOf rec) x) in
-        ap is-well q ∙ both _ _ (no-fault (y .drive) (keptOf (y .tells)) _ _ (acts-after rec x w o t) (kept-whole (y .tells))) .0
+        inr (record { drive = y .drive; sense = keptOf (y .tells); part0 = _; part1 = _; well = acts-after rec x w o t; whole = kept-whole (y .tells); is = ap (λ (r : Result). r .rec) q })
 
--- and so does a mount, of any block length
+well-after : (rec : List ℕ) (x : Lent) → wellRecord rec ≡ true → wellRecord (commandCall rec x .rec) ≡ true
+well-after rec x h = go (left-or-made rec x)
+  where
+    go : ((commandCall rec x .answer .refusal ≢ 0) × (commandCall rec x .rec ≡ rec)) ⊎ Made (commandCall rec x .rec) → wellRecord (commandCall rec x .rec) ≡ true
+    go (inl k) = ap wellRecord (k .1) ∙ h
+    go (inr m) = ap wellRecord (m .is) ∙ both _ _ (no-fault (m .drive) (m .sense) (m .part0) (m .part1) (m .well) (m .whole)) .0
+
+-- and it is its fields
+as-fields : (rec : List ℕ) (x : Lent) → commandCall rec x .answer .refusal ≡ 0 → encodeOf (decodeOf (commandCall rec x .rec)) ≡ commandCall rec x .rec
+as-fields rec x h = go (left-or-made rec x)
+  where
+    go : ((commandCall rec x .answer .refusal ≢ 0) × (commandCall rec x .rec ≡ rec)) ⊎ Made (commandCall rec x .rec) → encodeOf (decodeOf (commandCall rec x .rec)) ≡ commandCall rec x .rec
+    go (inl k) = absurd (k .0 h)
+    go (inr m) =
+        ap (λ (s : List ℕ). encodeOf (decodeOf s)) (m .is)
+        ∙ ap encodeOf (back (m .drive) (m .sense) (place-small (m .drive) (m .part0) (m .part1) (m .well .cart)) (m .well .small) (m .whole))
+        ∙ sym (m .is)
+
+-- a mount, of any block length, leaves one that is well formed too
 
 mounted-well : (p1 : List ℕ) (n : ℕ) → n ≤ largestBlock → wellRecord (encodeOf (withLength (mountedDrive (partitionsOf p1)) n)) ≡ true
 unfolding wellRecord wellFormed attentionKnown placed mountedDrive encodeOf senseBytes emptySense bytes
@@ -145,15 +171,24 @@ uses-so (sends cmd sent received) rec c = (refl, refl)
 uses-so mounts rec c = (ap (λ (s : Settled). s .lent) (mounts-so rec (c .part0) (c .part1)), refl)
 uses-so (protects s on) rec c = (refl, refl)
 
--- ---- a GOOD MODE SELECT of twelve bytes: what is left is the same to the last field, so that all that follows is
+-- ---- a GOOD MODE SELECT of twelve bytes leaves the same, the record to the byte: so all that follows is the same
 
 pub selected : (rec rec′ : List ℕ) → Twins rec rec′ → (x : Lent) → operationOf (codeOf (x .cmd)) ≡ ModeSelect → allocationOf (x .cmd) ≡ wholeLength → isGood (commandCall rec x .answer) ≡ true
-    → decodeOf (commandCall rec x .rec) ≡ decodeOf (commandCall rec′ x .rec)
+    → commandCall rec x ≡ commandCall rec′ x
 selected rec rec′ w x is whole g =
-    ap₂ withLength (ap (λ (o : Outcome). o .drive) e) (sets rec x ∙ picks rec (commandCall rec x .answer) g ∙ sym (sets rec′ x ∙ picks rec′ (commandCall rec′ x .answer) (ap (λ (o : Outcome). isGood (o .answer)) (sym e) ∙ g)))
+    λ i. result (e i .answer) ((sym (as-fields rec x (unrefused (commandCall rec x .answer) g)) ∙ ap encodeOf drives ∙ as-fields rec′ x (unrefused (commandCall rec′ x .answer) g′)) i) (e i .lent)
   where
     e : besides (commandCall rec x) ≡ besides (commandCall rec′ x)
     e = unheeded rec rec′ w x (rw is refl)
 
+    g′ : isGood (commandCall rec′ x .answer) ≡ true
+    g′ = ap (λ (o : Outcome). isGood (o .answer)) (sym e) ∙ g
+
+    unrefused : (a : Answer) → isGood a ≡ true → a .refusal ≡ 0
+    unrefused a h = eqb-true (a .refusal) 0 (both (eqb (a .refusal) 0) (eqb (a .status) 0) h .0)
+
     picks : (r : List ℕ) (a : Answer) → isGood a ≡ true → lengthAfter r x a ≡ newLength (x .sent)
     picks r a h = rw (is, h, whole) refl
+
+    drives : decodeOf (commandCall rec x .rec) ≡ decodeOf (commandCall rec′ x .rec)
+    drives = ap₂ withLength (ap (λ (o : Outcome). o .drive) e) (sets rec x ∙ picks rec (commandCall rec x .answer) g ∙ sym (sets rec′ x ∙ picks rec′ (commandCall rec′ x .answer) g′))
