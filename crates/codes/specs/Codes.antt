@@ -1,4 +1,4 @@
--- The lengths of command blocks, the commands served and the masks of their bytes (01, "Command lengths and masks"; Q-1).
+-- The lengths of command blocks, the commands served and the masks of their bytes (01, "Command lengths and masks"; Q-1; Q-4).
 -- Assumes nothing: these are definitions.
 use mathlib.Core.Bool.{Bool, true, cond, _&&_, _||_}
 use mathlib.Core.List.{List, [], _∷_, _++_}
@@ -58,8 +58,8 @@ rows =
     row TestUnitReady [] ∷
     -- 01 REWIND 1:01
     row Rewind (0x01 ∷ []) ∷
-    -- 03 REQUEST SENSE 4:FF
-    row RequestSense (0x00 ∷ 0x00 ∷ 0x00 ∷ 0xFF ∷ []) ∷
+    -- 03 REQUEST SENSE 4:FF; Q-4: "The mask of 03h gains the bit", bit 0 of byte 1
+    row RequestSense (0x01 ∷ 0x00 ∷ 0x00 ∷ 0xFF ∷ []) ∷
     -- 05 READ BLOCK LIMITS none
     row ReadBlockLimits [] ∷
     -- 08 READ 1:03 2–4:FF

@@ -1,4 +1,5 @@
--- The fields of the command blocks, by the bits that 01 gives them (01, "What each command does"), and 02 those of sixteen bytes (Q-1).
+-- The fields of the command blocks, by the bits that 01 gives them (01, "What each command does"), and 02 those of sixteen bytes (Q-1) and
+-- the one for sense in descriptor form (Q-4).
 -- Assumes nothing: these are definitions.
 use mathlib.Core.Bool.{Bool}
 use mathlib.Core.List.{List}
@@ -75,6 +76,10 @@ pageOf cmd = getD cmd 2 0 % 2 ^ 6
 
 unfoldable pub pfOf : List ℕ → Bool
 pfOf cmd = bit (getD cmd 1 0) 4
+
+-- REQUEST SENSE: "Newer hosts set bit 0 of byte 1"
+unfoldable pub asksDescriptors : List ℕ → Bool
+asksDescriptors cmd = bit (getD cmd 1 0) 0
 
 -- REQUEST SENSE, MODE SENSE: the allocation; MODE SELECT: the list length
 unfoldable pub allocationOf : List ℕ → ℕ

@@ -2,7 +2,7 @@
 ghost use mathlib.Core.Path.{_≡_};
 ghost use Prim.Native.Nat.{_≤_};
 ghost use lib.ListN.{length};
-ghost use Rattle.codes.specs.Fields.{fixedOf, siliOf, transferOf, spaceCodeOf, spaceCountOf, spaceCount16Of, longOf, changesPartition, objectOf, partitionOf, destinationOf, partition16Of, identifierOf, loadOf, formOf, dbdOf, pageOf, pfOf, allocationOf};
+ghost use Rattle.codes.specs.Fields.{fixedOf, siliOf, transferOf, spaceCodeOf, spaceCountOf, spaceCount16Of, longOf, changesPartition, objectOf, partitionOf, destinationOf, partition16Of, identifierOf, loadOf, formOf, dbdOf, pageOf, pfOf, asksDescriptors, allocationOf};
 use words::be24_at;
 use words::be32_at;
 use words::be64_at;
@@ -151,6 +151,14 @@ pub fn pf(cmd: &[u8]) -> bool
     ensures { λ r. ⌜ r ≡ pfOf (now (cmd .entry)) ⌝ }
 {
     cmd[1] & 0x10 != 0
+}
+
+// The bit of REQUEST SENSE that asks for the sense in descriptor form.
+pub fn asks_descriptors(cmd: &[u8]) -> bool
+    requires { ⌜ 2 ≤ length (now cmd) ⌝ }
+    ensures { λ r. ⌜ r ≡ asksDescriptors (now (cmd .entry)) ⌝ }
+{
+    cmd[1] & 0x01 != 0
 }
 
 // The allocation of REQUEST SENSE and MODE SENSE, and the list length of MODE SELECT.

@@ -8,6 +8,7 @@ mod operation;
 pub use block::is_too_short;
 pub use block::masks_hold;
 pub use fields::allocation;
+pub use fields::asks_descriptors;
 pub use fields::changes_partition;
 pub use fields::dbd;
 pub use fields::destination;

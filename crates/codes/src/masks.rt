@@ -13,8 +13,8 @@ pub const TEST_UNIT_READY_MASKS: [u8; WIDTH] = NO_MASKS;
 // 01 REWIND 1:01
 pub const REWIND_MASKS: [u8; WIDTH] = [0x01, 0, 0, 0, 0, 0, 0, 0, 0, 0, 0, 0, 0, 0, 0];
 
-// 03 REQUEST SENSE 4:FF
-pub const REQUEST_SENSE_MASKS: [u8; WIDTH] = [0, 0, 0, FF, 0, 0, 0, 0, 0, 0, 0, 0, 0, 0, 0];
+// 03 REQUEST SENSE 1:01 4:FF
+pub const REQUEST_SENSE_MASKS: [u8; WIDTH] = [0x01, 0, 0, FF, 0, 0, 0, 0, 0, 0, 0, 0, 0, 0, 0];
 
 // 05 READ BLOCK LIMITS none
 pub const READ_BLOCK_LIMITS_MASKS: [u8; WIDTH] = NO_MASKS;

@@ -13,7 +13,7 @@ use Rattle.codes.specs.declared.operation.Operation.the-variants.{RequestSense,
 use Rattle.codes.specs.Fields.{allocationOf, dbdOf, formOf}
 use Rattle.commands.specs.Parameters.{headerLength, wholeLength, blockLimits, modeData, shortPosition, longPosition}
 use Rattle.commands.specs.Kinds.{among}
-use Rattle.commands.specs.Act.{Seen, shortForm, senseAsked, replyOf}
+use Rattle.commands.specs.Act.{Seen, shortForm, senseReply, replyOf}
 use Rattle.commands.specs.Tests.{replyLength}
 
 chosen-length : (t : Bool) (x y : List ℕ) (a b : ℕ) → length x ≡ a → length y ≡ b → length (cond t x y) ≡ cond t a b
@@ -28,7 +28,7 @@ mode-length false g n = refl
 pub reply-length : (o : Operation) (d : Drive) (cmd : List ℕ) (v : Seen) → length (replyOf o d cmd v) ≡ replyLength o d cmd
 unfolding replyOf replyLength blockLimits shortPosition longPosition bytes
 reply-length o d cmd v =
-    chosen-length (among (RequestSense ∷ []) o) _ _ _ _ (length-take (allocationOf cmd) (senseAsked d))
+    chosen-length (among (RequestSense ∷ []) o) _ _ _ _ (length-take (allocationOf cmd) (senseReply d cmd))
     (chosen-length (among (ReadBlockLimits ∷ []) o) _ _ _ _ refl
     (chosen-length (among (ModeSense ∷ []) o) _ _ _ _
     (length-take (allocationOf cmd) (modeData (dbdOf cmd) (v .guarded) (d .«block_length»)) ∙ ap (min (allocationOf cmd)) (mode-length (dbdOf cmd) (v .guarded) (d .«block_length»)))

@@ -16,11 +16,12 @@ use Rattle.objects.specs.Room.{roomOf, zoneIn}
 use Rattle.sense.specs.declared.Sense.{Sense}
 use Rattle.sense.specs.Sense.{noAdditional, unqualified, filemarkDetected, endOfPartition, beginningOfPartition, endOfDataDetected, invalidListField}
 use Rattle.sense.specs.Sense.{noSense, illegalRequest, blankCheck, volumeOverflow, told, plainly, attentionSense}
+use Rattle.sense.specs.Descriptors.{inForm}
 use Rattle.record.specs.declared.drive.Drive.{Drive}
 use Rattle.record.specs.Record.{noAttention, drive, holding, loadedAnew, unloaded}
 use Rattle.codes.specs.declared.operation.Operation.{Operation}
 use Rattle.codes.specs.declared.operation.Operation.the-variants.{TestUnitReady, Rewind, RequestSense, ReadBlockLimits, Read, Write, WriteFilemarks, Space, ModeSelect, Erase, ModeSense, LoadUnload, Locate, ReadPosition, Space16, Locate16, NotServed}
-use Rattle.codes.specs.Fields.{fixedOf, siliOf, transferOf, spaceCodeOf, spaceCountOf, spaceCount16Of, changesPartition, objectOf, partitionOf, destinationOf, partition16Of, identifierOf, loadOf, formOf, dbdOf, allocationOf}
+use Rattle.codes.specs.Fields.{fixedOf, siliOf, transferOf, spaceCodeOf, spaceCountOf, spaceCount16Of, changesPartition, objectOf, partitionOf, destinationOf, partition16Of, identifierOf, loadOf, formOf, dbdOf, asksDescriptors, allocationOf}
 use Rattle.commands.specs.Kinds.{among, erases}
 use Rattle.objects.specs.Transfer.{Ended, whole, oddLength, atFilemark, atEnd, Run, runOf, blocksOf, marksOf, fitting, putFrom}
 use Rattle.commands.specs.Parameters.{blockLimits, modeData, wholeLength, listRight, newLength, shortPosition, longPosition}
@@ -271,10 +272,14 @@ longForm = 0x06
 abbrev pub senseAsked : Drive → List ℕ
 senseAsked d = cond (eqb (d .attention) noAttention) (d .sense) (attentionSense (d .attention))
 
+-- Q-4: in descriptor form where the command asks for it, in place of the eighteen bytes
+abbrev pub senseReply : Drive → List ℕ → List ℕ
+senseReply d cmd = inForm (asksDescriptors cmd) (senseAsked d)
+
 unfoldable pub replyOf : Operation → Drive → List ℕ → Seen → List ℕ
 replyOf o d cmd v =
     let z = zoneAt v (d .position) in
-    cond (among (RequestSense ∷ []) o) (limited (allocationOf cmd) (senseAsked d))
+    cond (among (RequestSense ∷ []) o) (limited (allocationOf cmd) (senseReply d cmd))
     (cond (among (ReadBlockLimits ∷ []) o) blockLimits
     (cond (among (ModeSense ∷ []) o) (limited (allocationOf cmd) (modeData (dbdOf cmd) (v .guarded) (d .«block_length»)))
     (cond (among (ReadPosition ∷ []) o)

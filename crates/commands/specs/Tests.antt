@@ -18,7 +18,7 @@ use Rattle.codes.specs.Fields.{fixedOf, siliOf, transferOf, spaceCodeOf, change
 use Rattle.commands.specs.Stop.{Stop, refuse, attend, fault}
 use Rattle.commands.specs.Kinds.{among, passesAttention, isServed, needsCartridge, locates, writes}
 use Rattle.commands.specs.Parameters.{noPage, allPages, limitsLength, headerLength, wholeLength, shortLength, longLength, listLengthKnown}
-use Rattle.commands.specs.Act.{Seen, overBlocks, overFilemarks, toEnd, namedPartition, byObject, byFile, byEnd, shortForm, longForm, senseAsked}
+use Rattle.commands.specs.Act.{Seen, overBlocks, overFilemarks, toEnd, namedPartition, byObject, byFile, byEnd, shortForm, longForm, senseReply}
 
 -- "length × block length (FIXED) or length bytes"
 unfoldable pub bytesAsked : Drive → List ℕ → ℕ
@@ -50,7 +50,7 @@ taken o d cmd = cond (among (Write ∷ []) o) (bytesAsked d cmd) (cond (among (M
 -- how long its reply is: the same whatever it sees
 unfoldable pub replyLength : Operation → Drive → List ℕ → ℕ
 replyLength o d cmd =
-    cond (among (RequestSense ∷ []) o) (min (allocationOf cmd) (length (senseAsked d)))
+    cond (among (RequestSense ∷ []) o) (min (allocationOf cmd) (length (senseReply d cmd)))
     (cond (among (ReadBlockLimits ∷ []) o) limitsLength
     (cond (among (ModeSense ∷ []) o) (min (allocationOf cmd) (cond (dbdOf cmd) headerLength wholeLength))
     (cond (among (ReadPosition ∷ []) o) (cond (eqb (formOf cmd) shortForm) shortLength longLength)

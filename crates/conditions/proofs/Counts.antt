@@ -1,23 +1,19 @@
 -- How many bytes a command takes and may need, as the code counts them: one law for each return. What it may need is the same whatever it sees
 -- of the partition.
 -- Assumes nothing.
-use mathlib.Core.Path.{_≡_, refl, sym, ap, _∙_}
+use mathlib.Core.Path.{_≡_, refl}
 use mathlib.Core.Bool.{Bool, true, false, cond}
 use mathlib.Core.List.{List, [], _∷_}
-use Prim.Native.Nat.{ℕ, min}
+use Prim.Native.Nat.{ℕ}
 use borrow.Author.Tests.{eq-eqb, ne-eqb}
 use lib.Dec.{eqb}
-use lib.ListN.{length}
-use Rattle.words.specs.Words.{bytes}
-use Rattle.sense.specs.Sense.{senseLength, senseBytes, attentionSense}
 use Rattle.record.specs.declared.drive.Drive.{Drive}
-use Rattle.record.specs.Record.{noAttention}
 use Rattle.codes.specs.declared.operation.Operation.{Operation}
 use Rattle.codes.specs.declared.operation.Operation.the-variants.{Write, ModeSelect}
 use Rattle.codes.specs.Fields.{allocationOf}
 use Rattle.commands.specs.Parameters.{shortLength, longLength}
 use Rattle.commands.specs.Kinds.{among}
-use Rattle.commands.specs.Act.{shortForm, senseAsked}
+use Rattle.commands.specs.Act.{shortForm}
 use Rattle.commands.specs.Tests.{bytesAsked, taken}
 
 -- ---- taken
@@ -51,18 +47,3 @@ module _ (n k : ℕ) (e : n ≡ k) where
 
   pub drops-unequal : (n ≡ shortForm → ⊥) → longLength ≡ cond (eqb k shortForm) shortLength longLength
   drops-unequal h = rw (← e, ne-eqb n shortForm h) refl
-
-attention-length : (a : ℕ) → length (attentionSense a) ≡ senseLength
-unfolding attentionSense senseBytes bytes
-attention-length a = refl
-
--- both senses have eighteen bytes
-pub asked-length : (d : Drive) → length (d .sense) ≡ senseLength → length (senseAsked d) ≡ senseLength
-asked-length d h = by (eqb (d .attention) noAttention)
-  where
-    by : (t : Bool) → length (cond t (d .sense) (attentionSense (d .attention))) ≡ senseLength
-    by true = h
-    by false = attention-length (d .attention)
-
-pub limited-sense : (d : Drive) (n k : ℕ) → length (d .sense) ≡ senseLength → k ≡ min n senseLength → k ≡ min n (length (senseAsked d))
-limited-sense d n k h q = q ∙ ap (min n) (sym (asked-length d h))

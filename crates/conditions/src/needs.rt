@@ -5,11 +5,9 @@ ghost use mathlib.Core.Bool.{cond};
 ghost use Prim.Native.Nat.{_≤_, min};
 ghost use lib.Dec.{eqb};
 ghost use lib.ListN.{length};
-ghost use Rattle.sense.specs.Sense.{senseLength};
-ghost use Rattle.record.specs.declared.drive.Drive.{Drive};
 ghost use Rattle.codes.specs.Fields.{dbdOf, formOf, allocationOf};
 ghost use Rattle.commands.specs.Parameters.{headerLength, wholeLength, shortLength, longLength};
-ghost use Rattle.commands.specs.Act.{shortForm};
+ghost use Rattle.commands.specs.Act.{shortForm, senseReply};
 ghost use Rattle.commands.specs.Tests.{replyLength};
 ghost use Rattle.commands.specs.Tests.{taken as Tests·taken, needed as Tests·needed};
 use crate::conditions::is_same;
@@ -21,7 +19,6 @@ use kinds::SHORT_FORM;
 use kinds::SHORT_LENGTH;
 use kinds::WHOLE_LENGTH;
 use record::Drive;
-use sense::SENSE_LENGTH;
 
 // How many bytes the command takes from the data sent.
 pub fn taken(o: Operation, d: Drive, cmd: &[u8]) -> u64
@@ -72,13 +69,21 @@ fn position_length(cmd: &[u8]) -> u64
     LONG_LENGTH as u64
 }
 
+// The length of the sense, in the form asked for.
+fn sense_length(d: Drive, cmd: &[u8]) -> u64
+    requires { ⌜ 2 ≤ length (now cmd) ⌝ }
+    ensures { λ r. ⌜ r ≡ length (senseReply d (now (cmd .entry))) ⌝ }
+{
+    payloads::asked_length(d, codes::asks_descriptors(cmd)) as u64
+}
+
 // The length of its reply: the same whatever it sees of the partition.
-fn reply_length(o: Operation, cmd: &[u8]) -> u64
+fn reply_length(o: Operation, d: Drive, cmd: &[u8]) -> u64
     requires { ⌜ 5 ≤ length (now cmd) ⌝ }
-    ensures { λ r. ⌜ ((d : Drive) → length (d .sense) ≡ senseLength → r ≡ replyLength o d (now (cmd .entry))) ⌝ }
+    ensures { λ r. ⌜ r ≡ replyLength o d (now (cmd .entry)) ⌝ }
 {
     if is_same(o, Operation::RequestSense) {
-        return limited(cmd, SENSE_LENGTH as u64);
+        return limited(cmd, sense_length(d, cmd));
     }
     if is_same(o, Operation::ReadBlockLimits) {
         return LIMITS_LENGTH as u64;
@@ -100,5 +105,5 @@ pub fn needed(o: Operation, d: Drive, cmd: &[u8]) -> u64
     if is_same(o, Operation::Read) {
         return kinds::bytes_asked(d, cmd);
     }
-    reply_length(o, cmd)
+    reply_length(o, d, cmd)
 }

@@ -27,6 +27,7 @@ use Rattle.edges.specs.Sixteen.{sixteens}
 use Rattle.edges.specs.EndOfData.{onSide, beforeTheZone, inTheZone, acrossTheZone}
 use Rattle.edges.specs.Crossed.{spaced, onTwo, notSpaced, notBySpace}
 use Rattle.edges.specs.Merged.{merges, doesNotMerge}
+use Rattle.edges.specs.Descriptors.{emptyTurned, markedTurned, unfitTurned, onesTurned, attentionTurned, othersTurned, leaving, asked}
 use Rattle.edges.specs.Mounted.{Mountings, mountings, FreshLeaves0, afterAMount, heeding, others, heedingAt0}
 
 pub mounted-so : Mountings mountings
@@ -50,5 +51,6 @@ unfolding Traps afterAMount bare64 E be bytes over signed wrapped bytesIn M.resi
 started-so = (refl, (refl, (refl, (refl, (refl, (refl, (refl, (refl, (refl, (refl, (refl, (refl, (refl, (refl, (refl, (refl, (refl, (refl, (refl, (refl, (refl, (refl, (refl, (refl, tt))))))))))))))))))))))))
 
 pub heeding-at-0 : heeding others ≡ heedingAt0
-unfolding heeding traps sixteens beforeTheZone inTheZone acrossTheZone onSide spaced onTwo notSpaced notBySpace merges doesNotMerge be bytes decodeOf fixedOf siliOf dbdOf
+unfolding heeding traps sixteens beforeTheZone inTheZone acrossTheZone onSide spaced onTwo notSpaced notBySpace merges doesNotMerge
+    emptyTurned markedTurned unfitTurned onesTurned attentionTurned othersTurned leaving asked be bytes decodeOf fixedOf siliOf dbdOf
 heeding-at-0 = refl

@@ -5,3 +5,4 @@ pub mod EndOfData
 pub mod Crossed
 pub mod Merged
 pub mod Mounted
+pub mod Descriptors

@@ -20,6 +20,7 @@ use Rattle.edges.specs.Sixteen.{sixteens}
 use Rattle.edges.specs.EndOfData.{beforeTheZone, inTheZone, acrossTheZone}
 use Rattle.edges.specs.Crossed.{spaced, onTwo, notSpaced, notBySpace}
 use Rattle.edges.specs.Merged.{merges, doesNotMerge}
+use Rattle.edges.specs.Descriptors.{emptyTurned, markedTurned, unfitTurned, onesTurned, attentionTurned, othersTurned, leaving, asked}
 
 -- ---- the services
 
@@ -138,7 +139,9 @@ together [] = []
 together (ts ∷ tss) = ts ++ together tss
 
 abbrev pub others : List Trap
-others = traps ++ sixteens ++ beforeTheZone ++ inTheZone ++ acrossTheZone ++ spaced ++ onTwo ++ notSpaced ++ notBySpace ++ together merges ++ together doesNotMerge
+others =
+    traps ++ sixteens ++ beforeTheZone ++ inTheZone ++ acrossTheZone ++ spaced ++ onTwo ++ notSpaced ++ notBySpace ++ together merges ++ together doesNotMerge
+    ++ emptyTurned ++ markedTurned ++ unfitTurned ++ onesTurned ++ attentionTurned ++ othersTurned ++ leaving ++ asked
 
 -- FIXED with nothing loaded, which with 32,768 is no field error (above); and SILI over a shorter block, which with 32,768 is hidden too (above)
 abbrev pub heedingAt0 : List (List ℕ)

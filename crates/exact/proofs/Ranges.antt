@@ -1,4 +1,4 @@
--- A residue that fits 32 signed bits is read back from its encoding; those of READ, WRITE, WRITE FILEMARKS and SPACE of six bytes fit.
+-- The residues of READ, WRITE, WRITE FILEMARKS and SPACE of six bytes fit 32 signed bits.
 -- Assumes nothing.
 use Prim.Native.Nat.{ℕ, zero, suc, _+_, _-_, _%_, _^_, _≤_, _<_}
 use mathlib.Core.Path.{_≡_, refl, sym, ap, _∙_, subst}
@@ -13,8 +13,8 @@ use lib.Dec.{eqb, ltb}
 use lib.IntN.{ℤ, pos, negsuc, negℤ, subℕ}
 use lib.ListN.{length, take, drop, getD, getElem?}
 use Rattle.words.specs.Words.{be}
-use Rattle.words.specs.Signed.{signed, wrapped, fits32}
-use Rattle.words.proofs.Wraps.{subℕ-cases, signed-low, signed-high}
+use Rattle.words.specs.Signed.{signed, fits32}
+use Rattle.words.proofs.Wraps.{subℕ-cases}
 use Rattle.answers.specs.Answers.{checkCondition}
 use Rattle.objects.specs.Object.{Object, filemark, block, dataOf, bytesIn}
 use Rattle.objects.specs.Movement as M
@@ -55,18 +55,7 @@ counting o c = go (one-test o Read (Write ∷ WriteFilemarks ∷ Space ∷ Space
     go (inr (inr (inr (inl e)))) = spaces e
     go (inr (inr (inr (inr e)))) = spaces16 e
 
--- ---- a residue in 32 bits, and back
-
-pub read-back : (z : ℤ) → fits32 z ≡ true → signed (2 ^ 31) (wrapped z) ≡ z
-unfolding wrapped fits32
-read-back (pos n) f =
-    let h = ltb-true n (2 ^ 31) f in
-    let e : n % 2 ^ 32 ≡ n = omega arith in
-    rw e (signed-low (2 ^ 31) n h)
-read-back (negsuc n) f =
-    let h = ltb-true n (2 ^ 31) f in
-    let e : 2 ^ 31 + 2 ^ 31 - suc (2 ^ 32 - suc (n % 2 ^ 32)) ≡ n = omega arith in
-    signed-high (2 ^ 31) (2 ^ 32 - suc (n % 2 ^ 32)) (omega arith) ∙ ap negsuc e
+-- ---- what fits 32 signed bits
 
 above-fits : (n : ℕ) → n < 2 ^ 31 → fits32 (pos n) ≡ true
 unfolding fits32

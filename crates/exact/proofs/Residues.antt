@@ -17,7 +17,7 @@ use lib.IntN.{ℤ, pos, negsuc, subℕ}
 use lib.ListN.{length, take, getElem?}
 use Rattle.words.specs.Words.{be}
 use Rattle.words.specs.Signed.{signed, wrapped, fits32}
-use Rattle.words.proofs.Wraps.{subℕ-cases}
+use Rattle.words.proofs.Wraps.{subℕ-cases, signed-wrapped}
 use Rattle.answers.specs.Answers.{checkCondition, first}
 use Rattle.answers.proofs.First.{not-both}
 use Rattle.objects.specs.Object.{Object, filemark, block, dataOf, bytesIn}
@@ -52,7 +52,7 @@ use Rattle.exact.specs.Residues.{counts, fixedRun, leftOfOne, readResidu
 use Rattle.exact.proofs.Tells.{Told}
 use Rattle.exact.proofs.Senses.{ByTest, after-act, heard, told-act, told-test}
 use Rattle.exact.proofs.Small.{image-small}
-use Rattle.exact.proofs.Ranges.{Counting, reads, writes, marks, spaces, spaces16, counting, read-back, count-small, read-fits, write-fits, marks-fit, space-fits, count-fits}
+use Rattle.exact.proofs.Ranges.{Counting, reads, writes, marks, spaces, spaces16, counting, count-small, read-fits, write-fits, marks-fit, space-fits, count-fits}
 
 -- ---- what is told reports the residue z, if it fits, under key 0, 8 or D
 
@@ -315,7 +315,7 @@ module _ (rec : List ℕ) (x : Lent) where
   reported a c s = record {
     valid = h .0;
     information = shown true;
-    read-as = λ f. ap (signed (2 ^ 31)) (shown true f) ∙ read-back Z f;
+    read-as = λ f. ap (signed (2 ^ 31)) (shown true f) ∙ signed-wrapped Z f;
     silent = shown false;
   }
     where

@@ -58,22 +58,27 @@ module _ (rec : List ℕ) (x : Lent) where
 
   -- ---- stopped
 
-  after-fault : (key asc ascq : ℕ) → key < 16 → first T ≡ some (fault key asc ascq) → (R .answer .status ≡ checkCondition) × (senseAfter R ≡ plainly key asc ascq)
-  unfolding stopped
-  after-fault key asc ascq h e =
-      let q = call-stops rec x (fault key asc ascq) e in (
-        ap (λ (r : Result). r .answer .status) q,
-        ap senseAfter q ∙ ap partsOf (sense-back d (senseBytes (plainly key asc ascq)) (sense-whole (plainly key asc ascq))) ∙ parts-made (plainly key asc ascq) (told-held false false false false key asc ascq (pos 0) h),
-      )
+  -- key, ASC and ASCQ alone: CHECK CONDITION, the bytes that are kept, and their parts
+  record Plain (key asc ascq : ℕ) : Type 0 where
+    status : R .answer .status ≡ checkCondition
+    bytes-are : decodeOf (R .rec) .sense ≡ senseBytes (plainly key asc ascq)
 
-  after-attention : first T ≡ some attend → (R .answer .status ≡ checkCondition) × (senseAfter R ≡ plainly unitAttention (d .attention) unqualified)
+  parts-are : (key asc ascq : ℕ) → key < 16 → Plain key asc ascq → senseAfter R ≡ plainly key asc ascq
+  parts-are key asc ascq h p = ap partsOf (p .bytes-are) ∙ parts-made (plainly key asc ascq) (told-held false false false false key asc ascq (pos 0) h)
+
+  after-fault : (key asc ascq : ℕ) → first T ≡ some (fault key asc ascq) → Plain key asc ascq
+  unfolding stopped
+  after-fault key asc ascq e =
+      let q = call-stops rec x (fault key asc ascq) e in
+      let s = plainly key asc ascq in
+      record { status = ap (λ (r : Result). r .answer .status) q; bytes-are = ap (λ (r : Result). decodeOf (r .rec) .sense) q ∙ sense-back d (senseBytes s) (sense-whole s) }
+
+  after-attention : first T ≡ some attend → Plain unitAttention (d .attention) unqualified
   unfolding stopped attentionSense
   after-attention e =
       let q = call-stops rec x attend e in
-      let s = plainly unitAttention (d .attention) unqualified in (
-        ap (λ (r : Result). r .answer .status) q,
-        ap senseAfter q ∙ ap partsOf (sense-back (unattended d) (senseBytes s) (sense-whole s)) ∙ parts-made s (told-held false false false false unitAttention (d .attention) unqualified (pos 0) (omega arith)),
-      )
+      let s = plainly unitAttention (d .attention) unqualified in
+      record { status = ap (λ (r : Result). r .answer .status) q; bytes-are = ap (λ (r : Result). decodeOf (r .rec) .sense) q ∙ sense-back (unattended d) (senseBytes s) (sense-whole s) }
 
   after-refusal : (n : ℕ) → 0 < n → first T ≡ some (refuse n) → R .answer .status ≡ 0
   unfolding stopped
@@ -109,41 +114,44 @@ module _ (rec : List ℕ) (x : Lent) where
   never : (n : ℕ) → 0 < n → first T ≡ some (refuse n) → R .answer .status ≡ checkCondition → ⊥
   never n h e s = let z : _≡_ {A = ℕ} 0 checkCondition = sym (after-refusal n h e) ∙ s in omega arith
 
-  -- the ASC of the test at place j
-  pub data Known (j a : ℕ) : Type 0 where
-    attention-waits : j ≡ 2 → d .attention ≡ a → Known j a
-    code-not-served : j ≡ 3 → invalidOperationCode ≡ a → Known j a
-    field-wrong : j ≡ 4 → invalidField ≡ a → Known j a
-    list-length-wrong : j ≡ 5 → listLengthError ≡ a → Known j a
-    nothing-loaded : j ≡ 6 → mediumNotPresent ≡ a → Known j a
-    no-such-partition : j ≡ 7 → invalidField ≡ a → Known j a
-    write-protected : j ≡ 8 → writeProtected ≡ a → Known j a
+  -- the key and the ASC of the test at place j
+  pub data Known (j k a : ℕ) : Type 0 where
+    attention-waits : j ≡ 2 → unitAttention ≡ k → d .attention ≡ a → Known j k a
+    code-not-served : j ≡ 3 → illegalRequest ≡ k → invalidOperationCode ≡ a → Known j k a
+    field-wrong : j ≡ 4 → illegalRequest ≡ k → invalidField ≡ a → Known j k a
+    list-length-wrong : j ≡ 5 → illegalRequest ≡ k → listLengthError ≡ a → Known j k a
+    nothing-loaded : j ≡ 6 → notReady ≡ k → mediumNotPresent ≡ a → Known j k a
+    no-such-partition : j ≡ 7 → illegalRequest ≡ k → invalidField ≡ a → Known j k a
+    write-protected : j ≡ 8 → dataProtect ≡ k → writeProtected ≡ a → Known j k a
 
-  -- key, ASC and ASCQ alone, under a key that no residue goes with
+  -- key and ASC alone, unqualified, under a key that no residue goes with
   pub record ByTest : Type 0 where
     pub place : ℕ
     pub key : ℕ
     pub asc : ℕ
-    pub ascq : ℕ
     pub there : FirstAt T place
-    pub known : Known place asc
-    pub is : senseAfter R ≡ plainly key asc ascq
+    pub known : Known place key asc
+    pub kept : decodeOf (R .rec) .sense ≡ senseBytes (plainly key asc unqualified)
+    pub is : senseAfter R ≡ plainly key asc unqualified
     pub silent : (z : ℤ) → reports true key z ≡ false
 
-  by-fault : (j k a q : ℕ) → FirstAt T j → Known j a → k < 16 → ((z : ℤ) → reports true k z ≡ false) → first T ≡ some (fault k a q) → ByTest
-  by-fault j k a q f n h s e = record { place = j; key = k; asc = a; ascq = q; there = f; known = n; is = after-fault k a q h e .1; silent = s }
+  by-plain : (j k a : ℕ) → FirstAt T j → Known j k a → k < 16 → ((z : ℤ) → reports true k z ≡ false) → Plain k a unqualified → ByTest
+  by-plain j k a f n h s p = record { place = j; key = k; asc = a; there = f; known = n; kept = p .bytes-are; is = parts-are k a unqualified h p; silent = s }
+
+  by-fault : (j k a : ℕ) → FirstAt T j → Known j k a → k < 16 → ((z : ℤ) → reports true k z ≡ false) → first T ≡ some (fault k a unqualified) → ByTest
+  by-fault j k a f n h s e = by-plain j k a f n h s (after-fault k a unqualified e)
 
   by-place : (j : ℕ) → FirstAt T j → first T ≡ givenAt T j → R .answer .status ≡ checkCondition → ByTest
   unfolding commandTests tests reports
   by-place zero f g s = absurd (never 1 (omega arith) g s)
   by-place (suc zero) f g s = absurd (never 4 (omega arith) g s)
-  by-place (suc (suc zero)) f g s = record { place = 2; key = unitAttention; asc = d .attention; ascq = unqualified; there = f; known = attention-waits refl refl; is = after-attention g .1; silent = λ z. refl }
-  by-place (suc (suc (suc zero))) f g s = by-fault 3 _ _ _ f (code-not-served refl refl) (omega arith) (λ z. refl) g
-  by-place (suc (suc (suc (suc zero)))) f g s = by-fault 4 _ _ _ f (field-wrong refl refl) (omega arith) (λ z. refl) g
-  by-place (suc (suc (suc (suc (suc zero))))) f g s = by-fault 5 _ _ _ f (list-length-wrong refl refl) (omega arith) (λ z. refl) g
-  by-place (suc (suc (suc (suc (suc (suc zero)))))) f g s = by-fault 6 _ _ _ f (nothing-loaded refl refl) (omega arith) (λ z. refl) g
-  by-place (suc (suc (suc (suc (suc (suc (suc zero))))))) f g s = by-fault 7 _ _ _ f (no-such-partition refl refl) (omega arith) (λ z. refl) g
-  by-place (suc (suc (suc (suc (suc (suc (suc (suc zero)))))))) f g s = by-fault 8 _ _ _ f (write-protected refl refl) (omega arith) (λ z. refl) g
+  by-place (suc (suc zero)) f g s = by-plain 2 unitAttention (d .attention) f (attention-waits refl refl refl) (omega arith) (λ z. refl) (after-attention g)
+  by-place (suc (suc (suc zero))) f g s = by-fault 3 _ _ f (code-not-served refl refl refl) (omega arith) (λ z. refl) g
+  by-place (suc (suc (suc (suc zero)))) f g s = by-fault 4 _ _ f (field-wrong refl refl refl) (omega arith) (λ z. refl) g
+  by-place (suc (suc (suc (suc (suc zero))))) f g s = by-fault 5 _ _ f (list-length-wrong refl refl refl) (omega arith) (λ z. refl) g
+  by-place (suc (suc (suc (suc (suc (suc zero)))))) f g s = by-fault 6 _ _ f (nothing-loaded refl refl refl) (omega arith) (λ z. refl) g
+  by-place (suc (suc (suc (suc (suc (suc (suc zero))))))) f g s = by-fault 7 _ _ f (no-such-partition refl refl refl) (omega arith) (λ z. refl) g
+  by-place (suc (suc (suc (suc (suc (suc (suc (suc zero)))))))) f g s = by-fault 8 _ _ f (write-protected refl refl refl) (omega arith) (λ z. refl) g
   by-place (suc (suc (suc (suc (suc (suc (suc (suc (suc zero))))))))) f g s = absurd (never 2 (omega arith) g s)
   by-place (suc (suc (suc (suc (suc (suc (suc (suc (suc (suc zero)))))))))) f g s = absurd (never 3 (omega arith) g s)
   by-place (suc (suc (suc (suc (suc (suc (suc (suc (suc (suc (suc j))))))))))) f g s = absurd (not-both (sym (f .1)))
@@ -171,7 +179,8 @@ module _ (rec : List ℕ) (x : Lent) where
   record ToldAt (a : ℕ) : Type 0 where
     place : ℕ
     there : FirstAt T place
-    known : Known place a
+    key : ℕ
+    known : Known place key a
 
   told-at : (a : ℕ) → a ≢ noAdditional → a ≢ invalidListField → R .answer .status ≡ checkCondition → senseAfter R .asc ≡ a → ToldAt a
   told-at a n m s e = go (first T) refl
@@ -180,11 +189,11 @@ module _ (rec : List ℕ) (x : Lent) where
       go none q = absurd (from-act a n m (told-act q s) e)
       go (some p) q =
           let b = told-test p q s in
-          record { place = b .place; there = b .there; known = subst (Known (b .place)) (sym (asc-plain (b .key) (b .asc) (b .ascq) (b .is)) ∙ e) (b .known) }
+          record { place = b .place; there = b .there; key = b .key; known = subst (Known (b .place) (b .key)) (sym (asc-plain (b .key) (b .asc) unqualified (b .is)) ∙ e) (b .known) }
 
   -- ---- the attention that waits is 28h or 29h
 
-  waits : FirstAt T 2 → (d .attention ≡ mediumChanged) ⊎ (d .attention ≡ powerOn)
+  pub waits : FirstAt T 2 → (d .attention ≡ mediumChanged) ⊎ (d .attention ≡ powerOn)
   unfolding attentionKnown
   waits f = let c = at-attention rec x .0 f in by (c .1 .0) (or-three (eqb (d .attention) noAttention) (eqb (d .attention) mediumChanged) (eqb (d .attention) powerOn) (same-test (d .attention) noAttention) (same-test (d .attention) mediumChanged) (same-test (d .attention) powerOn) .0 (well-drive rec x (c .0) .attention))
     where
@@ -197,37 +206,37 @@ module _ (rec : List ℕ) (x : Lent) where
   abbrev placeOf : ℕ → ℕ
   placeOf a = cond (eqb a invalidOperationCode) 3 (cond (eqb a listLengthError) 5 (cond (eqb a mediumNotPresent) 6 (cond (eqb a writeProtected) 8 2)))
 
-  one-place : (j a : ℕ) → a ≢ invalidField → FirstAt T j → Known j a → j ≡ placeOf a
-  one-place j a n f (attention-waits p e) = go (waits (subst (FirstAt T) p f))
+  one-place : (j k a : ℕ) → a ≢ invalidField → FirstAt T j → Known j k a → j ≡ placeOf a
+  one-place j k a n f (attention-waits p w e) = go (waits (subst (FirstAt T) p f))
     where
       go : (d .attention ≡ mediumChanged) ⊎ (d .attention ≡ powerOn) → j ≡ placeOf a
       go (inl q) = p ∙ ap placeOf (sym q ∙ e)
       go (inr q) = p ∙ ap placeOf (sym q ∙ e)
-  one-place j a n f (code-not-served p e) = p ∙ ap placeOf e
-  one-place j a n f (field-wrong p e) = absurd (n (sym e))
-  one-place j a n f (list-length-wrong p e) = p ∙ ap placeOf e
-  one-place j a n f (nothing-loaded p e) = p ∙ ap placeOf e
-  one-place j a n f (no-such-partition p e) = absurd (n (sym e))
-  one-place j a n f (write-protected p e) = p ∙ ap placeOf e
+  one-place j k a n f (code-not-served p w e) = p ∙ ap placeOf e
+  one-place j k a n f (field-wrong p w e) = absurd (n (sym e))
+  one-place j k a n f (list-length-wrong p w e) = p ∙ ap placeOf e
+  one-place j k a n f (nothing-loaded p w e) = p ∙ ap placeOf e
+  one-place j k a n f (no-such-partition p w e) = absurd (n (sym e))
+  one-place j k a n f (write-protected p w e) = p ∙ ap placeOf e
 
   once : (a : ℕ) → a ≢ noAdditional → a ≢ invalidListField → a ≢ invalidField → R .answer .status ≡ checkCondition → senseAfter R .asc ≡ a → FirstAt T (placeOf a)
-  once a n m k s e = let f = told-at a n m s e in subst (FirstAt T) (one-place (f .place) a k (f .there) (f .known)) (f .there)
+  once a n m k s e = let f = told-at a n m s e in subst (FirstAt T) (one-place (f .place) (f .key) a k (f .there) (f .known)) (f .there)
 
   twice : R .answer .status ≡ checkCondition → senseAfter R .asc ≡ invalidField → FirstAt T 4 ⊎ FirstAt T 7
-  twice s e = let f = told-at invalidField (λ q. omega arith) (λ q. omega arith) s e in go (f .place) (f .there) (f .known)
+  twice s e = let f = told-at invalidField (λ q. omega arith) (λ q. omega arith) s e in go (f .place) (f .key) (f .there) (f .known)
     where
-      go : (j : ℕ) → FirstAt T j → Known j invalidField → FirstAt T 4 ⊎ FirstAt T 7
-      go j f (attention-waits p e) = absurd (by (waits (subst (FirstAt T) p f)))
+      go : (j k : ℕ) → FirstAt T j → Known j k invalidField → FirstAt T 4 ⊎ FirstAt T 7
+      go j k f (attention-waits p w e) = absurd (by (waits (subst (FirstAt T) p f)))
         where
           by : (d .attention ≡ mediumChanged) ⊎ (d .attention ≡ powerOn) → ⊥
           by (inl q) = omega arith
           by (inr q) = omega arith
-      go j f (code-not-served p e) = absurd (omega arith)
-      go j f (field-wrong p e) = inl (subst (FirstAt T) p f)
-      go j f (list-length-wrong p e) = absurd (omega arith)
-      go j f (nothing-loaded p e) = absurd (omega arith)
-      go j f (no-such-partition p e) = inr (subst (FirstAt T) p f)
-      go j f (write-protected p e) = absurd (omega arith)
+      go j k f (code-not-served p w e) = absurd (omega arith)
+      go j k f (field-wrong p w e) = inl (subst (FirstAt T) p f)
+      go j k f (list-length-wrong p w e) = absurd (omega arith)
+      go j k f (nothing-loaded p w e) = absurd (omega arith)
+      go j k f (no-such-partition p w e) = inr (subst (FirstAt T) p f)
+      go j k f (write-protected p w e) = absurd (omega arith)
 
   -- ---- each sense exactly
 
@@ -236,7 +245,7 @@ module _ (rec : List ℕ) (x : Lent) where
   tells-plain key asc ascq s e = (s, (ap (λ (t : Sense). t .key) e, (ap (λ (t : Sense). t .asc) e, ap (λ (t : Sense). t .ascq) e)))
 
   tells-fault : (key asc ascq : ℕ) → key < 16 → first T ≡ some (fault key asc ascq) → Tells R key asc ascq
-  tells-fault key asc ascq h e = let a = after-fault key asc ascq h e in tells-plain key asc ascq (a .0) (a .1)
+  tells-fault key asc ascq h e = let p = after-fault key asc ascq e in tells-plain key asc ascq (p .status) (parts-are key asc ascq h p)
 
   -- "operation code not served (5/20/00)"
   pub told-5-20-00 : Tells R illegalRequest invalidOperationCode unqualified ↔ (ComesCode rec x × CodeNotServed rec x)
@@ -286,10 +295,12 @@ module _ (rec : List ℕ) (x : Lent) where
   attention-told a n m k p = ((λ h. go (subst (FirstAt T) p (once a n m k (h .0) (h .1 .1 .0))) (h .1 .1 .0)), back)
     where
       go : FirstAt T 2 → senseAfter R .asc ≡ a → (ComesAttention rec x × AttentionWaits rec x) × (d .attention ≡ a)
-      go f e = (at-attention rec x .0 f, sym (asc-plain unitAttention (d .attention) unqualified (after-attention (first-at T 2 f) .1)) ∙ e)
+      go f e = (at-attention rec x .0 f, sym (asc-plain unitAttention (d .attention) unqualified (parts-are unitAttention (d .attention) unqualified (omega arith) (after-attention (first-at T 2 f)))) ∙ e)
 
       back : (ComesAttention rec x × AttentionWaits rec x) × (d .attention ≡ a) → Tells R unitAttention a unqualified
-      back h = let b = after-attention (first-at T 2 (at-attention rec x .1 (h .0))) in tells-plain unitAttention a unqualified (b .0) (b .1 ∙ ap (λ (n : ℕ). plainly unitAttention n unqualified) (h .1))
+      back h =
+          let p = after-attention (first-at T 2 (at-attention rec x .1 (h .0))) in
+          tells-plain unitAttention a unqualified (p .status) (parts-are unitAttention (d .attention) unqualified (omega arith) p ∙ ap (λ (n : ℕ). plainly unitAttention n unqualified) (h .1))
 
   pub told-6-28-00 : Tells R unitAttention mediumChanged unqualified ↔ ((ComesAttention rec x × AttentionWaits rec x) × (decodeOf rec .attention ≡ mediumChanged))
   told-6-28-00 = attention-told mediumChanged (λ e. omega arith) (λ e. omega arith) (λ e. omega arith) refl

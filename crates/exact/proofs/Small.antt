@@ -23,11 +23,14 @@ use Rattle.image.proofs.Facts.{Sound, end-lt}
 use Rattle.image.proofs.Objects.{length-objects, end-bytes}
 use Rattle.record.specs.declared.drive.Drive.{Drive}
 use Rattle.record.specs.Record.{attentionAt, senseAt, noAttention, decodeOf}
-use Rattle.sense.specs.Sense.{senseLength, illegalRequest, invalidListField, unqualified, plainly, attentionSense}
+use Rattle.sense.specs.declared.Sense.{Sense}
+use Rattle.sense.specs.Sense.{senseLength, illegalRequest, invalidListField, unqualified, partsOf, plainly, attentionSense}
+use Rattle.sense.specs.Descriptors.{descriptorBytes, inForm, bothLength, streamLength}
+use Rattle.sense.proofs.Forms.{form-length}
 use Rattle.codes.specs.declared.operation.Operation.{Operation}
 use Rattle.codes.specs.declared.operation.Operation.the-variants.{TestUnitReady, Rewind, RequestSense, ReadBlockLimits, Read, Write, WriteFilemarks, Space, ModeSelect, Erase, ModeSense, LoadUnload, Locate, ReadPosition, Space16, Locate16, NotServed}
-use Rattle.codes.specs.Fields.{fixedOf, transferOf, formOf, dbdOf, allocationOf}
-use Rattle.commands.specs.Act.{Seen, good, checked, carrying, withLength, readVariable, readRun, reading, goesDown, offered, spacing, locating, selecting, shortForm, senseAsked, replyOf, act}
+use Rattle.codes.specs.Fields.{fixedOf, transferOf, formOf, dbdOf, asksDescriptors, allocationOf}
+use Rattle.commands.specs.Act.{Seen, good, checked, carrying, withLength, readVariable, readRun, reading, goesDown, offered, spacing, locating, selecting, shortForm, senseAsked, senseReply, replyOf, act}
 use Rattle.commands.specs.Call.{Lent, partition, looksAt, seen, seenOf}
 use Rattle.commands.specs.Parameters.{limitsLength, headerLength, wholeLength, shortLength, longLength, listLengthKnown, listRight, newLength}
 use Rattle.commands.specs.Kinds.{among, needsCartridge}
@@ -107,12 +110,28 @@ sense-short rec = go (eqb (getD rec attentionAt 0) noAttention)
     go true = omega (arith, length-take senseLength (drop senseAt rec))
     go false = omega (arith, attention-whole (getD rec attentionAt 0))
 
+-- in either form
+form-short : (rec cmd : List ℕ) → length (senseReply (decodeOf rec) cmd) ≤ bothLength
+unfolding inForm
+form-short rec cmd = go (asksDescriptors cmd)
+  where
+    parts : Sense
+    parts = partsOf (senseAsked (decodeOf rec))
+
+    by : (v : Bool) → cond v bothLength streamLength ≤ bothLength
+    by true = omega arith
+    by false = omega arith
+
+    go : (t : Bool) → length (cond t (descriptorBytes parts) (senseAsked (decodeOf rec))) ≤ bothLength
+    go true = omega (arith, form-length parts, by (parts .valid))
+    go false = omega (arith, sense-short rec)
+
 reply-short : (rec cmd : List ℕ) (o : Operation) → replyLength o (decodeOf rec) cmd ≤ longLength
 unfolding replyLength
 reply-short rec cmd o =
-    go (among (RequestSense ∷ []) o) (among (ReadBlockLimits ∷ []) o) (among (ModeSense ∷ []) o) (among (ReadPosition ∷ []) o) (dbdOf cmd) (eqb (formOf cmd) shortForm) (length (senseAsked (decodeOf rec))) (sense-short rec)
+    go (among (RequestSense ∷ []) o) (among (ReadBlockLimits ∷ []) o) (among (ModeSense ∷ []) o) (among (ReadPosition ∷ []) o) (dbdOf cmd) (eqb (formOf cmd) shortForm) (length (senseReply (decodeOf rec) cmd)) (form-short rec cmd)
   where
-    go : (a b c e f g : Bool) (n : ℕ) → n ≤ senseLength
+    go : (a b c e f g : Bool) (n : ℕ) → n ≤ bothLength
         → cond a (min (allocationOf cmd) n) (cond b limitsLength (cond c (min (allocationOf cmd) (cond f headerLength wholeLength)) (cond e (cond g shortLength longLength) 0))) ≤ longLength
     go true b c e f g n h = omega arith
     go false true c e f g n h = omega arith

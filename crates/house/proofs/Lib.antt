@@ -1,3 +1,4 @@
 pub mod Mounted
 pub mod Cases
 pub mod Answered
+pub mod Made

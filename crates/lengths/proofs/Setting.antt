@@ -6,14 +6,13 @@ use mathlib.Core.Path.{_≡_, refl, sym, ap, _∙_}
 use mathlib.Core.Bool.{Bool, true, false, cond, not, _&&_, _||_}
 use mathlib.Core.Option.{Option, none, some}
 use mathlib.Core.List.{List, [], _∷_}
-use borrow.Author.Tests.{eqb-true, eqb-false, ne-eqb, not-true}
+use borrow.Author.Tests.{eqb-true, ne-eqb, not-true}
 use lib.Dec.{eqb}
 use lib.IntN.{subℕ}
 use lib.ListN.{length, drop, getElem?}
 use Rattle.words.specs.Words.{be, bytes}
 use Rattle.words.proofs.Laws.{be-bytes}
-use Rattle.answers.specs.declared.Answer.{Answer}
-use Rattle.answers.specs.Answers.{commandShort, recordFault, refused, done, settled, settledBy, first, refusalOf}
+use Rattle.answers.specs.Answers.{commandShort, recordFault, refused, done, settled}
 use Rattle.objects.specs.Object.{Object, filemark, block}
 use Rattle.objects.specs.Transfer.{runOf}
 use Rattle.image.proofs.Tests.{both}
@@ -24,7 +23,8 @@ use Rattle.codes.specs.declared.operation.Operation.{Operation}
 use Rattle.codes.specs.declared.operation.Operation.the-variants.{TestUnitReady, Rewind, RequestSense, ReadBlockLimits, Read, Write, WriteFilemarks, Space, ModeSelect, Erase, ModeSense, LoadUnload, Locate, ReadPosition, Space16, Locate16, NotServed}
 use Rattle.codes.specs.Codes.{codeOf, tooShort, operationOf}
 use Rattle.codes.specs.Fields.{fixedOf, transferOf, loadOf, allocationOf}
-use Rattle.house.specs.Mount.{partitionsOf, freshTests, freshCall, mountFault, mountCall}
+use Rattle.house.proofs.Made.{fresh-made, mount-made}
+use Rattle.house.specs.Mount.{partitionsOf, freshCall, mountFault, mountCall}
 use Rattle.commands.specs.Kinds.{among}
 use Rattle.commands.specs.Stop.{Stop, refuse, attend, fault}
 use Rattle.commands.specs.Parameters.{wholeLength, listRight, newLength}
@@ -56,19 +56,10 @@ made-length : (n : ℕ) → lengthIn (encodeOf (mountedDrive n)) ≡ mountedBloc
 unfolding mountedDrive
 made-length n = length-back (mountedDrive n) (omega arith)
 
--- a house service that is done leaves what it makes
-leaves-made : (k : ℕ) (lent made : List ℕ) → settledBy k lent made .answer ≡ done → settledBy k lent made .lent ≡ made
-leaves-made k lent made h = go (eqb k 0) refl h
-  where
-    go : (t : Bool) → eqb k 0 ≡ t → (cond t (settled done made) (settled (refused k) lent)) .answer ≡ done → (cond t (settled done made) (settled (refused k) lent)) .lent ≡ made
-    go true e a = refl
-    go false e a = absurd (eqb-false k 0 e (ap (λ (y : Answer). y .refusal) a))
-
 pub mounted-length : (rec p0 p1 : List ℕ) → mountCall rec p0 p1 .answer ≡ done
     → (lengthIn (mountCall rec p0 p1 .lent) ≡ 32768) × (lengthBytes (mountCall rec p0 p1 .lent) ≡ 0x00 ∷ 0x00 ∷ 0x80 ∷ 0x00 ∷ [])
-unfolding mountCall
 mounted-length rec p0 p1 h =
-    let m = leaves-made (mountFault rec p0 p1) rec (encodeOf (mountedDrive (partitionsOf p1))) h in
+    let m = mount-made rec p0 p1 h in
     (ap lengthIn m ∙ made-length (partitionsOf p1), ap lengthBytes m ∙ spelt (partitionsOf p1))
   where
     spelt : (n : ℕ) → lengthBytes (encodeOf (mountedDrive n)) ≡ 0x00 ∷ 0x00 ∷ 0x80 ∷ 0x00 ∷ []
@@ -76,8 +67,8 @@ mounted-length rec p0 p1 h =
 
 -- a fresh record has 0, as 01 has it
 pub fresh-length : (rec : List ℕ) → freshCall rec .answer ≡ done → lengthIn (freshCall rec .lent) ≡ 0
-unfolding freshCall freshDrive
-fresh-length rec h = ap lengthIn (leaves-made (refusalOf (first (freshTests rec))) rec (encodeOf freshDrive) h) ∙ length-back freshDrive (omega arith)
+unfolding freshDrive
+fresh-length rec h = ap lengthIn (fresh-made rec h) ∙ length-back freshDrive (omega arith)
 
 -- ---- and no command but MODE SELECT sets another
 

@@ -3,13 +3,17 @@
 use Prim.Native.Nat.{ℕ, _^_, _≤_, _<_, min}
 use native.Mathlib.Omega.{arith}
 use mathlib.Core.Path.{_≡_, refl, ap, _∙_}
-use mathlib.Core.Bool.{Bool, true, false}
+use mathlib.Core.Bool.{Bool, true, false, not}
 use mathlib.Core.List.{List, []}
+use borrow.Author.Tests.{not-true, not-false}
 use lib.ListN.{length, length-take}
 use Rattle.words.specs.Words.{bytes, over, limited}
+use Rattle.sense.specs.declared.Sense.{Sense}
+use Rattle.sense.specs.Sense.{partsOf}
+use Rattle.sense.specs.Descriptors.{descriptorBytes, inForm}
 use Rattle.record.specs.declared.drive.Drive.{Drive}
 use Rattle.codes.specs.declared.operation.Operation.the-variants.{RequestSense, ReadBlockLimits, ModeSense}
-use Rattle.codes.specs.Fields.{allocationOf, dbdOf}
+use Rattle.codes.specs.Fields.{asksDescriptors, allocationOf, dbdOf}
 use Rattle.commands.specs.Parameters.{blockLimits, modeData}
 use Rattle.deeds.specs.declared.deeds.Left.{Left}
 use Rattle.commands.specs.Act.{carrying, good, unattended, senseAsked, replyOf, act}
@@ -22,13 +26,23 @@ reply-small n k b e h =
     let w : k ≡ min n (length b) = e ∙ length-take n b in
     omega arith
 
--- REQUEST SENSE: b is the sense asked for, n the allocation
-module _ (d : Drive) (cmd b : List ℕ) (n : ℕ) (eb : b ≡ senseAsked d) (en : n ≡ allocationOf cmd) where
-  pub sense-reply : limited n b ≡ replyOf RequestSense d cmd nothing
-  unfolding replyOf
-  sense-reply = rw (eb, en) refl
+-- a sense b in the form asked for: as it stands, or made of its parts s
+module _ (b : List ℕ) (t : Bool) where
+  pub as-it-stands : not t ≡ true → b ≡ inForm t b
+  unfolding inForm
+  as-it-stands h = rw (not-true t h) refl
 
-  pub sense-left : (k : ℕ) → k ≡ length (limited n b) → (e : Drive) → e ≡ unattended d → (r : Left) → r ≡ leftBy (carrying k (good e)) → r ≡ leftBy (act RequestSense d cmd [] nothing)
+  pub of-its-parts : not t ≡ false → (s : Sense) → s ≡ partsOf b → (f : List ℕ) → f ≡ descriptorBytes s → f ≡ inForm t b
+  unfolding inForm
+  of-its-parts h s es f ef = rw (not-false t h) (ef ∙ ap descriptorBytes es)
+
+-- REQUEST SENSE: b is the sense asked for, t says that descriptors are, n is the allocation
+module _ (d : Drive) (cmd b : List ℕ) (t : Bool) (n : ℕ) (eb : b ≡ senseAsked d) (et : t ≡ asksDescriptors cmd) (en : n ≡ allocationOf cmd) where
+  pub sense-reply : limited n (inForm t b) ≡ replyOf RequestSense d cmd nothing
+  unfolding replyOf
+  sense-reply = rw (eb, et, en) refl
+
+  pub sense-left : (k : ℕ) → k ≡ length (limited n (inForm t b)) → (e : Drive) → e ≡ unattended d → (r : Left) → r ≡ leftBy (carrying k (good e)) → r ≡ leftBy (act RequestSense d cmd [] nothing)
   unfolding act
   sense-left k ek e ee r q = q ∙ rw (ee, ek, sense-reply) refl
 
@@ -62,3 +76,11 @@ reply-fits a b l e h = rw e h
 
 pub reply-laid : (a b s t : List ℕ) → b ≡ a → t ≡ over s 0 b → t ≡ over s 0 a
 reply-laid a b s t e q = q ∙ ap (over s 0) e
+
+-- the same cut at an allocation
+module _ (n : ℕ) (a b : List ℕ) (e : b ≡ a) where
+  pub cut-fits : (l : ℕ) → length (limited n a) ≤ l → length (limited n b) ≤ l
+  cut-fits l h = reply-fits (limited n a) (limited n b) l (ap (limited n) e) h
+
+  pub cut-laid : (s t : List ℕ) (k : ℕ) → (t ≡ over s 0 (limited n b)) × (k ≡ length (limited n b)) → (t ≡ over s 0 (limited n a)) × (k ≡ length (limited n a))
+  cut-laid s t k q = rw (← e) q

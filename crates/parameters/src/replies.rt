@@ -3,7 +3,8 @@ ghost use mathlib.Core.Path.{_≡_};
 ghost use mathlib.Core.List.{[]};
 ghost use Prim.Native.Nat.{_≤_};
 ghost use lib.ListN.{length};
-ghost use Rattle.words.specs.Words.{over};
+ghost use Rattle.words.specs.Words.{over, limited};
+ghost use Rattle.sense.specs.Descriptors.{inForm};
 ghost use Rattle.codes.specs.declared.operation.Operation.the-variants.{RequestSense, ReadBlockLimits, ModeSense};
 ghost use Rattle.commands.specs.Act.{replyOf, act};
 ghost use Rattle.commands.specs.Call.{nothing};
@@ -14,6 +15,29 @@ use payloads::mode_data;
 use payloads::mode_header;
 use payloads::sense_asked;
 use record::Drive;
+use sense::SENSE_LENGTH;
+
+// A sense in the form asked for, cut at an allocation, with a receiving buffer that is long enough; how many bytes that were.
+fn give_sense(
+    b: &[u8; SENSE_LENGTH],
+    descriptors: bool,
+    allocation: usize,
+    received: &mut [u8],
+) -> usize
+    requires { ⌜ length (limited allocation (inForm descriptors (now b))) ≤ length (now received) ⌝ }
+    ensures { λ r. ⌜ (now (received .exit) ≡ over (now (received .entry)) 0 (limited allocation (inForm descriptors (now (b .entry))))) × (r ≡ length (limited allocation (inForm descriptors (now (b .entry))))) ⌝ }
+{
+    if !descriptors {
+        return words::copy_limited(received, b, allocation);
+    }
+    let s = sense::parts_of(b);
+    if s.valid {
+        let both = sense::with_information(s);
+        return words::copy_limited(received, &both, allocation);
+    }
+    let stream = sense::stream_alone(s);
+    words::copy_limited(received, &stream, allocation)
+}
 
 // REQUEST SENSE, with a receiving buffer that is long enough.
 pub fn request_sense(d: Drive, cmd: &[u8], received: &mut [u8]) -> Left
@@ -21,8 +45,9 @@ pub fn request_sense(d: Drive, cmd: &[u8], received: &mut [u8]) -> Left
     ensures { λ r. ⌜ (r ≡ leftBy (act RequestSense d (now (cmd .entry)) [] nothing)) × (now (received .exit) ≡ over (now (received .entry)) 0 (replyOf RequestSense d (now (cmd .entry)) nothing)) ⌝ }
 {
     let asked = sense_asked(d);
+    let descriptors = codes::asks_descriptors(cmd);
     let n = codes::allocation(cmd);
-    let carried = words::copy_limited(received, &asked, n as usize);
+    let carried = give_sense(&asked, descriptors, n as usize, received);
     deeds::good(deeds::unattended(d), carried as u32)
 }
 

@@ -4,6 +4,7 @@ mod data;
 mod list;
 mod position;
 
+pub use asked::asked_length;
 pub use asked::sense_asked;
 pub use data::block_limits;
 pub use data::mode_data;

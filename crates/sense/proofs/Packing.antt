@@ -1,23 +1,24 @@
 -- How the code's masks and shifts make the sense bytes of the definitions, and take them apart.
 -- Assumes nothing.
-use mathlib.Core.Path.{_≡_, refl, sym, _∙_}
+use mathlib.Core.Path.{_≡_, refl, sym}
 use mathlib.Core.Bool.{Bool, true, false, cond, not, _&&_, _||_}
 use mathlib.Core.List.{List, [], _∷_}
 use Prim.Native.Nat.{ℕ, suc, _+_, _-_, _*_, _/_, _%_, _^_, _<_, _≤_}
 use native.Mathlib.Omega.{arith}
-use borrow.Author.Tests.{eq-eqb, ne-eqb, not-true, not-false, lt-ltb, le-ltb, ltb-true, ltb-false, leb-true, leb-false}
+use borrow.Author.Tests.{eq-eqb, ne-eqb, not-true, not-false, lt-ltb, le-ltb, leb-true, leb-false}
 use lib.Bits.{bitAnd, bitOr, or-shifted, and-mask}
 use lib.Dec.{eqb, leb, ltb}
-use lib.IntN.{ℤ, pos, negsuc, subℕ}
+use lib.IntN.{ℤ, subℕ}
 use lib.ListN.{getD}
 use mir.Val.{boolByte}
 use Rattle.words.specs.Words.{be}
-use Rattle.words.specs.Signed.{wrapped, fits32}
-use Rattle.words.proofs.Stores.{low8, four-bytes}
+use Rattle.words.specs.Signed.{wrapped, fits32, extended}
+use Rattle.words.proofs.Stores.{low8, four-bytes, eight-bytes}
 use Rattle.words.proofs.Flags.{flag}
 use Rattle.words.proofs.Wraps.{subℕ-cases}
 use Rattle.sense.specs.declared.Sense.{Sense}
-use Rattle.sense.specs.Sense.{noSense, blankCheck, volumeOverflow, byte0, byte2, senseBytes, partsOf, reports, told}
+use Rattle.sense.specs.Sense.{noSense, blankCheck, volumeOverflow, flagBits, byte0, byte2, senseBytes, partsOf, reports, told}
+use Rattle.sense.specs.Descriptors.{informationDescriptor, streamDescriptor, descriptors, descriptorBytes}
 
 -- VALID stands above bits that it does not meet
 pub with-valid : (v : Bool) → bitOr (boolByte v * 128 % 256) 0x70 ≡ cond v 0xF0 0x70
@@ -27,8 +28,19 @@ with-valid false = refl
 low4 : (n : ℕ) → bitAnd n 15 ≡ n % 16
 low4 n = and-mask n 4
 
--- each flag is 0 or its bit, and the key stands below bit 5
-joined : (f e i : Bool) (k : ℕ) → k < 32 → bitOr (bitOr (bitOr (boolByte f * 128 % 256) (boolByte e * 64 % 256)) (boolByte i * 32 % 256)) k ≡ cond f 0x80 0 + cond e 0x40 0 + cond i 0x20 0 + k
+-- each flag is 0 or its bit
+pub with-flags : (f e i : Bool) → bitOr (bitOr (boolByte f * 128 % 256) (boolByte e * 64 % 256)) (boolByte i * 32 % 256) ≡ cond f 0x80 0 + cond e 0x40 0 + cond i 0x20 0
+with-flags true true true = refl
+with-flags true true false = refl
+with-flags true false true = refl
+with-flags true false false = refl
+with-flags false true true = refl
+with-flags false true false = refl
+with-flags false false true = refl
+with-flags false false false = refl
+
+-- and the key stands below bit 5
+joined : (f e i : Bool) (k : ℕ) → k < 32 → bitOr (cond f 0x80 0 + cond e 0x40 0 + cond i 0x20 0) k ≡ cond f 0x80 0 + cond e 0x40 0 + cond i 0x20 0 + k
 joined true true true k h = or-shifted 7 5 k h
 joined true true false k h = or-shifted 6 5 k h
 joined true false true k h = or-shifted 5 5 k h
@@ -38,8 +50,8 @@ joined false true false k h = or-shifted 2 5 k h
 joined false false true k h = or-shifted 1 5 k h
 joined false false false k h = or-shifted 0 5 k h
 
-pub with-flags : (f e i : Bool) (k : ℕ) → bitOr (bitOr (bitOr (boolByte f * 128 % 256) (boolByte e * 64 % 256)) (boolByte i * 32 % 256)) (bitAnd k 15) ≡ cond f 0x80 0 + cond e 0x40 0 + cond i 0x20 0 + k % 16
-with-flags f e i k = rw (low4 k) (joined f e i (k % 16) (omega arith))
+pub with-key : (f e i : Bool) (n : ℕ) → n ≡ cond f 0x80 0 + cond e 0x40 0 + cond i 0x20 0 → (k : ℕ) → bitOr n (bitAnd k 15) ≡ cond f 0x80 0 + cond e 0x40 0 + cond i 0x20 0 + k % 16
+with-key f e i n h k = rw (h, low4 k) (joined f e i (k % 16) (omega arith))
 
 -- the eighteen bytes written out are the definition's
 pub written : (s : Sense) (a b : ℕ) → a ≡ byte0 s → b ≡ byte2 s
@@ -47,6 +59,19 @@ pub written : (s : Sense) (a b : ℕ) → a ≡ byte0 s → b ≡ byte2 s
     ∷ 0x0A ∷ 0 ∷ 0 ∷ 0 ∷ 0 ∷ s .asc ∷ s .ascq ∷ 0 ∷ 0 ∷ 0 ∷ 0 ∷ []) ≡ senseBytes s
 unfolding senseBytes
 written s a b ea eb = rw (four-bytes (s .information), low8, low8, low8, low8, ea, eb) refl
+
+-- the bytes of the descriptor form, written out: with VALID, and without
+module _ (s : Sense) (n : ℕ) (en : n ≡ flagBits s) where
+  pub both-written : s .valid ≡ true → (v : ℕ) → v ≡ extended (s .information)
+      → (0x72 ∷ bitAnd (s .key) 15 ∷ s .asc ∷ s .ascq ∷ 0 ∷ 0 ∷ 0 ∷ 0x10 ∷ 0x00 ∷ 0x0A ∷ 0x80 ∷ 0
+      ∷ bitAnd (v / 2 ^ 56) 255 ∷ bitAnd (v / 2 ^ 48) 255 ∷ bitAnd (v / 2 ^ 40) 255 ∷ bitAnd (v / 2 ^ 32) 255
+      ∷ bitAnd (v / 16777216) 255 ∷ bitAnd (v / 65536) 255 ∷ bitAnd (v / 256) 255 ∷ bitAnd v 255 ∷ 0x04 ∷ 0x02 ∷ 0 ∷ n ∷ []) ≡ descriptorBytes s
+  unfolding descriptorBytes descriptors informationDescriptor streamDescriptor
+  both-written h v ev = rw (h, ← ev, eight-bytes v, low4 (s .key), low8, low8, low8, low8, low8, low8, low8, low8, en) refl
+
+  pub stream-written : s .valid ≡ false → (0x72 ∷ bitAnd (s .key) 15 ∷ s .asc ∷ s .ascq ∷ 0 ∷ 0 ∷ 0 ∷ 0x04 ∷ 0x04 ∷ 0x02 ∷ 0 ∷ n ∷ []) ≡ descriptorBytes s
+  unfolding descriptorBytes descriptors streamDescriptor
+  stream-written h = rw (h, low4 (s .key), en) refl
 
 -- what the code takes apart is the definition's
 pub apart : (b : List ℕ) (n : ℕ) → n ≡ be 4 b 3

@@ -1,1 +1,4 @@
 pub mod Sense
+pub mod Descriptors
+pub mod Reading
+pub mod Turned

@@ -100,9 +100,13 @@ additionalLength = 0x0A
 abbrev pub byte0 : Sense → ℕ
 byte0 s = cond (s .valid) 0xF0 0x70
 
--- byte 2: FILEMARK 80h, EOM 40h, ILI 20h, key below
+-- FILEMARK 80h, EOM 40h, ILI 20h
+abbrev pub flagBits : Sense → ℕ
+flagBits s = cond (s .filemark) filemarkBit 0 + cond (s .eom) eomBit 0 + cond (s .ili) iliBit 0
+
+-- byte 2: the flags, key below
 abbrev pub byte2 : Sense → ℕ
-byte2 s = cond (s .filemark) filemarkBit 0 + cond (s .eom) eomBit 0 + cond (s .ili) iliBit 0 + s .key % 16
+byte2 s = flagBits s + s .key % 16
 
 -- bytes 3–6 information; 7 0Ah; 12 ASC; 13 ASCQ; other bytes 0
 unfoldable pub senseBytes : Sense → List ℕ

@@ -1,4 +1,6 @@
-// The eighteen sense bytes: made from their parts, taken apart again, and what a command tells by them.
+// The eighteen sense bytes: made from their parts, taken apart again, and what a command tells by them; the same parts in descriptor form.
+mod descriptors;
+
 ghost use mathlib.Core.Path.{_≡_};
 ghost use mathlib.Core.Bool.{cond};
 ghost use Prim.Native.Nat.{_+_, _%_};
@@ -6,6 +8,10 @@ ghost use lib.IntN.{ℤ, subℕ};
 ghost use Rattle.words.specs.Signed.{fits32};
 ghost use Rattle.sense.specs.Sense.{senseBytes, partsOf, Shows, emptySense, attentionSense};
 ghost use Rattle.sense.specs.Sense.{reports as Sense·reports, told as Sense·told, plainly as Sense·plainly};
+pub use descriptors::BOTH_LENGTH;
+pub use descriptors::STREAM_LENGTH;
+pub use descriptors::stream_alone;
+pub use descriptors::with_information;
 
 // How many bytes a sense has.
 pub const SENSE_LENGTH: usize = 18;
@@ -78,14 +84,21 @@ fn first(valid: bool) -> u8
     ((valid as u8) << 7) | 0x70
 }
 
-// Byte 2: FILEMARK 80h, EOM 40h, ILI 20h, key below.
-fn flags_and_key(filemark: bool, eom: bool, ili: bool, key: u8) -> u8
-    ensures { λ r. ⌜ r ≡ cond filemark 0x80 0 + cond eom 0x40 0 + cond ili 0x20 0 + key % 16 ⌝ }
+// FILEMARK 80h, EOM 40h, ILI 20h.
+fn flag_bits(filemark: bool, eom: bool, ili: bool) -> u8
+    ensures { λ r. ⌜ r ≡ cond filemark 0x80 0 + cond eom 0x40 0 + cond ili 0x20 0 ⌝ }
 {
     let f = (filemark as u8) << 7;
     let e = (eom as u8) << 6;
     let i = (ili as u8) << 5;
-    f | e | i | (key & 0x0f)
+    f | e | i
+}
+
+// Byte 2: the flags, key below.
+fn flags_and_key(filemark: bool, eom: bool, ili: bool, key: u8) -> u8
+    ensures { λ r. ⌜ r ≡ cond filemark 0x80 0 + cond eom 0x40 0 + cond ili 0x20 0 + key % 16 ⌝ }
+{
+    flag_bits(filemark, eom, ili) | (key & 0x0f)
 }
 
 // The eighteen bytes of s.

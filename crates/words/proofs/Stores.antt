@@ -1,16 +1,21 @@
 -- How the code's shifts, masks and stores make the numbers of the definitions.
 -- Assumes nothing.
 use mathlib.Core.Path.{_≡_, refl, sym, ap, ap₂, _∙_}
-use mathlib.Core.List.{List, [], _∷_}
-use Prim.Native.Nat.{ℕ, suc, _+_, _*_, _/_, _%_, _^_, _<_, _≤_}
+use mathlib.Core.Bool.{Bool, true, false, cond}
+use mathlib.Core.List.{List, [], _∷_, _++_}
+use Prim.Native.Nat.{ℕ, suc, _+_, _-_, _*_, _/_, _%_, _^_, _<_, _≤_}
 use native.Mathlib.Nat.{div-div-eq-div-mul, add-zero}
 use native.Mathlib.Omega.{arith}
+use borrow.Author.Tests.{ltb-true, ltb-false}
+use lib.Dec.{ltb}
 use lib.ListN.{length, getD, set}
 use lib.Seq.{sets-eq}
 use lib.Bits.{bitAnd, bitOr, and-mask, or-shifted}
 use Rattle.words.specs.Words.{be, bytes, over}
 use Rattle.words.specs.Order.{le32, swapped}
-use Rattle.words.proofs.Laws.{be-split}
+use Rattle.words.specs.Signed.{extended}
+use Rattle.words.proofs.Laws.{be-split, bytes-split, bytes-low}
+use Rattle.words.proofs.Wraps.{extended-low, extended-high}
 
 -- a mask of eight ones is a remainder
 pub low8 : (n : ℕ) → bitAnd n 255 ≡ n % 256
@@ -83,6 +88,15 @@ pub four-bytes : (v : ℕ) → bytes 4 v ≡ v / 16777216 % 256 ∷ v / 65536 % 
 unfolding bytes
 four-bytes v = rw (quotient3 v, quotient2 v) refl
 
+-- and the eight
+pub eight-bytes : (v : ℕ)
+    → bytes 8 v ≡ v / 2 ^ 56 % 256 ∷ v / 2 ^ 48 % 256 ∷ v / 2 ^ 40 % 256 ∷ v / 2 ^ 32 % 256 ∷ v / 16777216 % 256 ∷ v / 65536 % 256 ∷ v / 256 % 256 ∷ v % 256 ∷ []
+eight-bytes v =
+    let q7 : v / 2 ^ 32 / 16777216 ≡ v / 2 ^ 56 = div-div-eq-div-mul v (2 ^ 32) 16777216 in
+    let q6 : v / 2 ^ 32 / 65536 ≡ v / 2 ^ 48 = div-div-eq-div-mul v (2 ^ 32) 65536 in
+    let q5 : v / 2 ^ 32 / 256 ≡ v / 2 ^ 40 = div-div-eq-div-mul v (2 ^ 32) 256 in
+    bytes-split 4 4 v ∙ rw (four-bytes (v / 2 ^ 32), four-bytes v, q7, q6, q5) refl
+
 -- four bytes read as a number and written again
 pub four-back : (s : List ℕ) (at : ℕ) → getD s at 0 < 256 → getD s (at + 1) 0 < 256 → getD s (at + 2) 0 < 256 → getD s (at + 3) 0 < 256
     → bytes 4 (be 4 s at) ≡ getD s at 0 ∷ getD s (at + 1) 0 ∷ getD s (at + 2) 0 ∷ getD s (at + 3) 0 ∷ []
@@ -107,3 +121,19 @@ stored4 s at v h =
 
 pub read8 : (s : List ℕ) (at h l : ℕ) → h ≡ be 4 s at → l ≡ be 4 s (at + 4) → h < 2 ^ 32 → l < 2 ^ 32 → bitOr (h * 2 ^ 32 % 2 ^ 64) l ≡ be 8 s at
 read8 s at h l eh el bh bl = joined-words h l bh bl ∙ ap₂ (λ (a b : ℕ). a * 2 ^ 32 + b) eh el ∙ sym (be-split 4 4 s at)
+
+-- ---- 32 bits in 64: the sign above the four bytes
+
+pub extended-bytes : (x : ℕ) → x < 2 ^ 32 → bytes 8 (extended x) ≡ bytes 4 (cond (ltb x (2 ^ 31)) 0 (2 ^ 32 - 1)) ++ bytes 4 x
+extended-bytes x h = by (ltb x (2 ^ 31)) refl
+  where
+    by : (t : Bool) → ltb x (2 ^ 31) ≡ t → bytes 8 (extended x) ≡ bytes 4 (cond t 0 (2 ^ 32 - 1)) ++ bytes 4 x
+    by true q =
+        let above : x / 2 ^ 32 ≡ 0 = omega arith in
+        rw (← extended-low x (ltb-true x (2 ^ 31) q)) (bytes-split 4 4 x ∙ ap (λ (k : ℕ). bytes 4 k ++ bytes 4 x) above)
+    by false q =
+        let v : ℕ = 2 ^ 64 - 2 ^ 32 + x in
+        let above : v / 2 ^ 32 ≡ 2 ^ 32 - 1 = omega arith in
+        let below : v % 2 ^ 32 ≡ x = omega arith in
+        rw (← extended-high x (ltb-false x (2 ^ 31) q))
+        (bytes-split 4 4 v ∙ ap₂ (λ (a b : List ℕ). a ++ b) (ap (bytes 4) above) (sym (bytes-low 4 v) ∙ ap (bytes 4) below))

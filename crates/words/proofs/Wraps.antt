@@ -1,5 +1,5 @@
 -- The wrapping subtraction is the encoding of the signed difference, for numbers and for encoded integers alike; a count
--- that fits is read back.
+-- that fits is read back, an integer from its 32 bits, and from these extended to 64.
 -- Assumes nothing.
 use mathlib.Core.Path.{_≡_, refl, sym, ap, _∙_}
 use mathlib.Core.Bool.{Bool, true, false, cond}
@@ -12,7 +12,7 @@ use mir.Val.{hbits, toZ, ofZ, SFits}
 use mir.Facts.{toZ-pos, toZ-ofZ}
 use lib.Dec.{ltb}
 use lib.IntN.{ℤ, pos, negsuc, subℕ, _-ℤ_}
-use Rattle.words.specs.Signed.{signed, wrapped}
+use Rattle.words.specs.Signed.{signed, wrapped, fits32, extended}
 
 -- the two cases of a signed difference of naturals
 pub subℕ-cases : (P : ℤ → Type 0) (a b : ℕ) → (a < b → P (negsuc (b - suc a))) → (b ≤ a → P (pos (a - b))) → P (subℕ a b)
@@ -75,3 +75,51 @@ missing-fits w k h = rw (missing w k h) (record { sfits = h })
 
 pub read-high : (w : Width) (half x k : ℕ) → k ≡ half + half - suc x → half ≤ x → k < 2 ^ hbits w → toZ w (ofZ w (negsuc 0 -ℤ toZ w k)) ≡ signed half x
 read-high w half x k e h l = toZ-ofZ {w = w} (missing-fits w k l) ∙ missing w k l ∙ ap negsuc e ∙ sym (signed-high half x h)
+
+-- ---- an integer in 32 bits, and back
+
+pub signed-wrapped : (z : ℤ) → fits32 z ≡ true → signed (2 ^ 31) (wrapped z) ≡ z
+unfolding wrapped fits32
+signed-wrapped (pos n) f =
+    let h = ltb-true n (2 ^ 31) f in
+    let e : n % 2 ^ 32 ≡ n = omega arith in
+    rw e (signed-low (2 ^ 31) n h)
+signed-wrapped (negsuc n) f =
+    let h = ltb-true n (2 ^ 31) f in
+    let e : 2 ^ 31 + 2 ^ 31 - suc (2 ^ 32 - suc (n % 2 ^ 32)) ≡ n = omega arith in
+    signed-high (2 ^ 31) (2 ^ 32 - suc (n % 2 ^ 32)) (omega arith) ∙ ap negsuc e
+
+pub wrapped-signed : (x : ℕ) → x < 2 ^ 32 → wrapped (signed (2 ^ 31) x) ≡ x
+unfolding wrapped
+wrapped-signed x h = by (ltb x (2 ^ 31)) refl
+  where
+    by : (t : Bool) → ltb x (2 ^ 31) ≡ t → wrapped (signed (2 ^ 31) x) ≡ x
+    by true q = rw (signed-low (2 ^ 31) x (ltb-true x (2 ^ 31) q)) (omega arith)
+    by false q = let l = ltb-false x (2 ^ 31) q in rw (signed-high (2 ^ 31) x l) (omega arith)
+
+-- ---- 32 bits in 64: the same integer
+
+pub extended-low : (x : ℕ) → x < 2 ^ 31 → x ≡ extended x
+unfolding extended
+extended-low x h = rw (lt-ltb x (2 ^ 31) h) refl
+
+pub extended-high : (x : ℕ) → 2 ^ 31 ≤ x → 2 ^ 64 - 2 ^ 32 + x ≡ extended x
+unfolding extended
+extended-high x h = rw (le-ltb x (2 ^ 31) h) refl
+
+pub signed-extended : (x : ℕ) → x < 2 ^ 32 → signed (2 ^ 63) (extended x) ≡ signed (2 ^ 31) x
+signed-extended x h = by (ltb x (2 ^ 31)) refl
+  where
+    by : (t : Bool) → ltb x (2 ^ 31) ≡ t → signed (2 ^ 63) (extended x) ≡ signed (2 ^ 31) x
+    by true q = let l = ltb-true x (2 ^ 31) q in rw (← extended-low x l) (signed-low (2 ^ 63) x (omega arith) ∙ sym (signed-low (2 ^ 31) x l))
+    by false q =
+        let l = ltb-false x (2 ^ 31) q in
+        let e : 2 ^ 63 + 2 ^ 63 - suc (2 ^ 64 - 2 ^ 32 + x) ≡ 2 ^ 31 + 2 ^ 31 - suc x = omega arith in
+        rw (← extended-high x l) (signed-high (2 ^ 63) (2 ^ 64 - 2 ^ 32 + x) (omega arith) ∙ ap negsuc e ∙ sym (signed-high (2 ^ 31) x l))
+
+pub extended-lt : (x : ℕ) → x < 2 ^ 32 → extended x < 2 ^ 64
+extended-lt x h = by (ltb x (2 ^ 31)) refl
+  where
+    by : (t : Bool) → ltb x (2 ^ 31) ≡ t → extended x < 2 ^ 64
+    by true q = rw (← extended-low x (ltb-true x (2 ^ 31) q)) (omega arith)
+    by false q = rw (← extended-high x (ltb-false x (2 ^ 31) q)) (omega arith)

@@ -11,6 +11,7 @@ pub use run::clear_at;
 pub use run::copy_at;
 pub use run::copy_limited;
 pub use signed::difference;
+pub use signed::extended;
 pub use signed::signed24;
 pub use signed::signed64;
 pub use write::put32_at;

@@ -1,7 +1,6 @@
--- READ may need what it asks for; any other the length of its reply. The kept sense has its eighteen bytes by the struct's type.
+-- READ may need what it asks for; any other the length of its reply.
 -- Assumes nothing.
 use borrow.Author.Needs.{needs}
-use Rattle.record.proofs.Facts.{held}
 use Rattle.commands.specs.Tests.{needed}
 use Rattle.conditions.proofs.Counts.{picked, other}
 use Rattle.conditions.proofs.needs.needed.Statement.{statement}
@@ -22,7 +21,7 @@ reply-length-requires c κs = search needs
 
 returns-2 : tie.Need-returns-2
 unfolding needed
-returns-2 c = other _ _ _ _ _ (c .before .before .is-same .ensures) (c .before .if1 .left) (c .reply-length .ensures (c .before .before .before .before .args .d) (held (c .before .before .before .before .args .d) (c .before .before .before .before .good .1 .0) .sense-length))
+returns-2 c = other _ _ _ _ _ (c .before .before .is-same .ensures) (c .before .if1 .left) (c .reply-length .ensures)
 
 pub needed-spec : {M : Type 1} → statement M
 needed-spec =

@@ -1,0 +1,3 @@
+pub mod Produced
+pub mod Listed
+pub mod Asked
