@@ -66,6 +66,20 @@ enum {
     KEY_OVERFLOW = 0xd
 };
 
+/* The same in descriptor form, of 02: "response code 72h: key, ASC and ASCQ in bytes 1 to 3", "Byte 7 is the length
+ * that follows"; behind it descriptors, each with its type first, and the length behind that second. */
+enum { DESC_FIRST = 0x72, DESC_KEY = 1, DESC_ASC = 2, DESC_ASCQ = 3, DESC_REST = 7, DESC_HEADER = 8 };
+
+/* "an information descriptor (type 00h, length 0Ah, 80h in its byte 2, value in 4-11, sign-extended) exactly when VALID
+ * is set, and a stream descriptor (type 04h, length 02h, FILEMARK, EOM, ILI in byte 3) always". VALID is a bit of the
+ * kept sense's first byte, whatever the others are. */
+enum { INFORMATION_TYPE = 0x00, INFORMATION_REST = 0x0a, INFORMATION_VALID = 0x80, INFORMATION_VALUE = 4 };
+enum { STREAM_TYPE = 0x04, STREAM_REST = 0x02, STREAM_FLAGS = 3 };
+enum { VALID_BIT = 0x80, ALL_FLAGS = STORMTOGGLE_FILEMARK | STORMTOGGLE_EOM | STORMTOGGLE_ILI };
+
+/* How long all of it is: with an information descriptor, and without one. */
+enum { DESC_WITH_VALUE = 24, DESC_WITHOUT = 12 };
+
 /* "Key/ASC/ASCQ", with FILEMARK, EOM and ILI over the key as 01 gives them: bytes 2, 12 and 13 as one number. */
 #define TOLD(byte_2, asc, ascq) ((byte_2) << 16 | (asc) << 8 | (ascq))
 enum told_number {
@@ -101,12 +115,13 @@ enum {
     INQUIRY = 0x12 /* "Not served" */
 };
 
-/* "Masks from byte 1 on, byte:bits, others 00", and 02's "92 1:3B 3-11:FF; 91 1:0F 4-11:FF", a ROW for each command
- * served: code, name, whether it needs no cartridge ("03, 05, 15, 1A need no cartridge"), masks. */
+/* "Masks from byte 1 on, byte:bits, others 00", and 02's "92 1:3B 3-11:FF; 91 1:0F 4-11:FF" and "The mask of 03h gains
+ * the bit", a ROW for each command served: code, name, whether it needs no cartridge ("03, 05, 15, 1A need no
+ * cartridge"), masks. */
 #define SERVED(ROW)                                                               \
     ROW(TEST_UNIT_READY, "TEST UNIT READY", 0, 0x00)                              \
     ROW(REWIND, "REWIND", 0, 0x01)                                                \
-    ROW(REQUEST_SENSE, "REQUEST SENSE", 1, 0x00, 0x00, 0x00, 0xff)                \
+    ROW(REQUEST_SENSE, "REQUEST SENSE", 1, 0x01, 0x00, 0x00, 0xff)                \
     ROW(READ_BLOCK_LIMITS, "READ BLOCK LIMITS", 1, 0x00)                          \
     ROW(READ, "READ", 0, 0x03, 0xff, 0xff, 0xff)                                  \
     ROW(WRITE, "WRITE", 0, 0x01, 0xff, 0xff, 0xff)                                \
@@ -128,8 +143,9 @@ enum { BYTES_6 = 6, BYTES_10 = 10, BYTES_12 = 12, BYTES_16 = 16 };
 enum { CODES_OF_10 = 0x20, CODES_OF_NONE = 0x60, CODES_OF_16 = 0x80, CODES_OF_12 = 0xa0, CODES_BEHIND_12 = 0xc0 };
 
 /* Bits of byte 1: REWIND, LOAD UNLOAD and LOCATE; READ and WRITE; ERASE; LOCATE; MODE SENSE; MODE SELECT. LOCATE (16)
- * has those of LOCATE. */
+ * has those of LOCATE. REQUEST SENSE has that of 02, which asks for the descriptor form. */
 enum { IMMED = 0x01, FIXED = 0x01, SILI = 0x02, LONG = 0x01, ERASE_IMMED = 0x02, CP = 0x02, DBD = 0x08, PF = 0x10 };
+enum { DESC = 0x01 };
 
 /* SPACE's code and READ POSITION's form are byte 1, MODE SENSE's page is byte 2. */
 enum { BLOCKS = 0, FILEMARKS = 1, TO_END_OF_DATA = 3 };

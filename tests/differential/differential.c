@@ -1,6 +1,7 @@
 /* differential.c SEED CALLS [largest]: the library held to the model of documents 01 and 02, call by call, on seeded
  * random work. With the largest, bytes carried and zeroed come near 2^30, which takes 3 GiB of memory. */
 #define _DEFAULT_SOURCE
+#include "asking.h"
 #include "left_over.h"
 #include "mounted.h"
 #include "report.h"
@@ -211,6 +212,7 @@ int main(int arguments, char **argument)
         run_code((uint8_t)round);
         run_bytes_off();
         run_noise();
+        run_asking();
         if (round % 4 == 0)
             run_merged();
         if (round % 8 == 0)

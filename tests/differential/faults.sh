@@ -3,7 +3,8 @@
 # the model, or, where a store may not go, behind the library; those marked so, the run with the largest work. The slips
 # of the directory's check are shown to tests/differential/damage.c too, and some to it alone; those of the movement by
 # sixteen bytes come next, then those of end of data, those of the objects crossed, those of two moves or one, which are
-# seeded in the rule that holds the calls to each other, and last those of the block length that a mount sets.
+# seeded in the rule that holds the calls to each other, those of the block length that a mount sets, and last those of
+# sense in descriptor form, of which the last are seeded in the readers that hold both forms to each other.
 # LIBRARY names another archive than the one that is built here from the sources.
 set -u
 cd "$(dirname "$0")/../.." || exit 2
@@ -218,4 +219,46 @@ slips+=(
     "a block of 32,768 fits by its data alone, without the four bytes of its entry"
 )
 show_from "$mounted" "on the block length of a mount"
+
+# Slips of REQUEST SENSE with the bit that asks for descriptors, each with the wrong answer that it gives.
+described=${#slips[@]}
+slips+=(
+    "the value not sign-extended, 00000000FFFFFFFBh for -5"
+    "byte 7 counts itself, 11h with a value and 05h without"
+    "the stream descriptor before the information descriptor"
+    "the form decided by the REQUEST SENSE before, not by the call's own bit"
+    "bit 4 of byte 2 passed through to the flags, F0h for all bits"
+    "number 3 asks for eighteen bytes in descriptor form too, where twelve are enough"
+    "an information descriptor without VALID too, 24 bytes always"
+    "no stream descriptor where no flag is set, 8 bytes for nothing told"
+    "an attention told in fixed form, though the bit is set"
+    "72h first in the kept sense behind a REQUEST SENSE in descriptor form"
+    "the kept sense stays behind a REQUEST SENSE in descriptor form, and is told again"
+    "the attention waits on behind a REQUEST SENSE in descriptor form, and is told again"
+    "bit 1 of byte 1 accepted as well, no 5/24/00"
+    "the descriptor form cut at eighteen bytes"
+    "the key with its high nibble, 80h in byte 1 at a filemark"
+    "the bit a field error, 5/24/00 as 01 had it"
+    "the bit accepted and not heeded, eighteen bytes for either"
+    "number 3 asks for 24 bytes in descriptor form always, where twelve are enough"
+    "byte 7 told by what the allocation leaves, 04h for 24 bytes cut at 12"
+    "the information descriptor's length told with its head, 0Ch"
+    "the value in bytes 4-7 of its descriptor, and zeros behind it"
+    "80h left out of the information descriptor, 00 0A 00 00"
+    "the flags in byte 2 of the stream descriptor"
+    "VALID left in the response code, F2h"
+    "VALID told by F0h in byte 0, and not by its bit 7 alone"
+    "allocation 0 clears nothing in descriptor form"
+    "the kept sense told in descriptor form while an attention waits"
+    "an attention told with a value of 0, where the kept sense is VALID"
+    "the fixed form made again of what it says, other bytes as a drive has them"
+    "number 3 asks for 24 bytes in fixed form too, where eighteen are enough"
+    "a residue that 32 signed bits do not hold told in eight bytes, and not left out"
+    "a REQUEST SENSE in descriptor form that number 3 refuses clears the kept sense"
+    "5/24/00 of a REQUEST SENSE with the bit clears the attention"
+    "a host that reads the value without a sign"
+    "a host that reads the flags in byte 2 of the stream descriptor"
+    "a host that takes byte 7 for the number of all bytes"
+)
+show_from "$described" "on sense in descriptor form"
 exit "$failed"

@@ -2,7 +2,7 @@
 #ifndef REACHED_H
 #define REACHED_H
 
-#include "lengths.h"
+#include "senses.h"
 
 enum service { FRESH, BLANK, MOUNT, PROTECT, VIEW, A_COMMAND, SERVICES };
 static const char *const service_names[] = {"fresh", "blank", "mount", "protect", "view", "command"};
@@ -51,8 +51,7 @@ static inline void note_width(enum width width, uint64_t number)
 
 static inline uint32_t told_in(const uint8_t *record)
 {
-    const uint8_t *sense = record + STORMTOGGLE_RECORD_SENSE;
-    return TOLD((uint32_t)sense[STORMTOGGLE_SENSE_KEY], sense[STORMTOGGLE_SENSE_ASC], sense[STORMTOGGLE_SENSE_ASCQ]);
+    return told_in_sense(record + STORMTOGGLE_RECORD_SENSE);
 }
 
 /* Of LOCATE (16) and SPACE (16) that came just where they were sent. */
@@ -117,6 +116,7 @@ static inline void count_command(unsigned refusal, uint64_t answer)
     crossings.just_before = crossed;
     count_sealed(block, refusal);
     count_length(block, refusal, told, STORMTOGGLE_CARRIED(answer), record_before, record);
+    count_asking(block, refusal, told, record_before);
     if (refusal != 0) {
         reached.refused[block[0]]++;
         note_move(ONE_BYTE_SHORT, is_long_move(block[0]) && twins[COMMAND].length == BYTES_16 - 1);
@@ -152,10 +152,12 @@ static inline void count_reached(uint64_t answer)
     }
     for (int i = 0; i < SLICES; i++)
         reached.null_slices += latest.empty_is_null && twins[i].length == 0;
-    if (latest.service == A_COMMAND && twins[COMMAND].length > 0 && twins[RECORD].length > 0)
+    if (latest.service == A_COMMAND && twins[COMMAND].length > 0 && twins[RECORD].length > 0) {
         count_command(refusal, answer);
-    else
+    } else {
         crossings.just_before = 0;
+        senses.form_behind = FORMS;
+    }
     if (latest.service == MOUNT && twins[RECORD].length == RECORD_BYTES)
         count_mount(refusal, record_before, bytes_of(RECORD, MODEL));
     if (latest.service == FRESH)

@@ -200,6 +200,61 @@ static inline void report_pairs(void)
         printf("two moves: %-55s %9lu\n", pair_names[kind], shown(pairs.kinds[kind]));
 }
 
+static inline unsigned long least_of(const unsigned long *counts, size_t count)
+{
+    unsigned long least = counts[0];
+    for (size_t i = 1; i < count; i++)
+        least = counts[i] < least ? counts[i] : least;
+    return least;
+}
+
+/* Each allocation up to 30 at least so often, and then those above it. */
+static inline void report_allocations(enum form form, enum answering answering)
+{
+    const unsigned long *times = senses.allocations[form][answering];
+    unsigned long others = 0;
+    for (int i = EACH_UP_TO + 1; i < ALLOCATION_MOST; i++)
+        others += times[i];
+    printf("REQUEST SENSE in %s, %s: each allocation up to %d at least %lu, 255 %lu, others %lu", form_names[form],
+           answering_names[answering], EACH_UP_TO, shown(least_of(times, EACH_UP_TO + 1)),
+           shown(times[ALLOCATION_MOST]), shown(others));
+    for (int is_cut = 0; is_cut < 2; is_cut++) {
+        printf("; %s, a buffer", is_cut ? "cut" : "whole");
+        for (int buffer = 0; buffer < BUFFERS; buffer++)
+            printf("%s %s %lu", buffer == 0 ? "" : ",", buffer_names[buffer],
+                   shown(senses.buffers[form][answering][is_cut][buffer]));
+    }
+    printf("\n");
+}
+
+static inline void report_asking(enum form form)
+{
+    for (int answering = 0; answering < ANSWERINGS; answering++)
+        report_allocations(form, (enum answering)answering);
+    printf("REQUEST SENSE in %s, loaded %lu, right behind one in fixed form %lu, in descriptor form %lu, another bit "
+           "of byte 1 %lu, under an attention %lu\n",
+           form_names[form], shown(senses.loaded[form]), shown(senses.behind[form][FIXED_FORM]),
+           shown(senses.behind[form][DESC_FORM]), shown(senses.wrong[form][0]), shown(senses.wrong[form][1]));
+    for (int is_fresh = 0; is_fresh < 2; is_fresh++)
+        printf("REQUEST SENSE in %s, %s waits over a kept sense that is VALID %lu, not VALID %lu\n", form_names[form],
+               is_fresh ? "29h" : "28h", shown(senses.attentions[form][is_fresh][1]),
+               shown(senses.attentions[form][is_fresh][0]));
+}
+
+/* What was kept, and told whole; nothing is told by a command that is GOOD, so no host asks for it. */
+static inline void report_kept(void)
+{
+    for (unsigned i = 0; i < TELLINGS; i++)
+        printf("kept: %-50s fixed %6lu, descriptors %6lu, heard in both %7lu\n", tellings[i].name,
+               shown(senses.tellings[FIXED_FORM][i]), shown(senses.tellings[DESC_FORM][i]),
+               tellings[i].told == TOLD_GOOD ? 0 : shown(senses.heard[i]));
+    printf("heard in both while it waits: 28h %lu, 29h %lu\n", shown(senses.heard_waiting[0]),
+           shown(senses.heard_waiting[1]));
+    for (int i = 0; i < STRANGERS; i++)
+        printf("kept: %-50s fixed %6lu, descriptors %6lu\n", stranger_names[i], shown(senses.strangers[FIXED_FORM][i]),
+               shown(senses.strangers[DESC_FORM][i]));
+}
+
 static inline void report_read_only(void)
 {
     printf("read-only: a WRITE that puts nothing %lu, the partition beside %lu, a buffer that receives nothing %lu, "
@@ -220,6 +275,9 @@ static inline int report(void)
     report_crossings();
     report_lengths();
     report_pairs();
+    report_asking(FIXED_FORM);
+    report_asking(DESC_FORM);
+    report_kept();
     report_read_only();
     printf("empty slices as NULL %lu, 2^32 bytes and more asked %lu, and lent %lu, 65,536 put %lu\n",
            shown(reached.null_slices), shown(reached.wide_products), shown(reached.wide_done),

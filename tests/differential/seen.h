@@ -33,6 +33,20 @@ static inline void look(void)
         seen.position = seen.tape.count;
 }
 
+/* A command on the drive that lies there, as far as it takes to tell how many bytes it takes and gives. */
+static inline struct session session_with(const uint8_t *command)
+{
+    const uint8_t *record = bytes_of(RECORD, MODEL);
+    if (twins[RECORD].length < RECORD_BYTES)
+        return (struct session){.block = command, .kept = nothing_told};
+    return (struct session){
+        .block = command,
+        .attention = record[STORMTOGGLE_RECORD_ATTENTION],
+        .block_length = get32(record + STORMTOGGLE_RECORD_BLOCK_LENGTH),
+        .kept = record + STORMTOGGLE_RECORD_SENSE,
+    };
+}
+
 static inline uint64_t seen_room(void)
 {
     return length_is_lawful(seen.tape.length) ? room_at(&seen.tape, seen.position) : 0;

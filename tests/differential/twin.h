@@ -2,8 +2,7 @@
 #ifndef TWIN_H
 #define TWIN_H
 
-#include "reached.h"
-#include "stormtoggle.h"
+#include "heard.h"
 #include <signal.h>
 
 /* Enough to see what is wrong; more would only repeat it. */
@@ -170,6 +169,31 @@ static inline int slice_differs(enum slice slice)
     return 1;
 }
 
+/* Whether the call has just left something to tell: CHECK CONDITION, or the attention of a fresh record or a mount. */
+static inline int leaves_to_tell(uint64_t answer)
+{
+    switch (latest.service) {
+    case A_COMMAND: return STORMTOGGLE_STATUS(answer) != STORMTOGGLE_GOOD;
+    case FRESH: case MOUNT: return STORMTOGGLE_REFUSAL(answer) == 0;
+    default: return 0;
+    }
+}
+
+/* Whether a host hears one thing of it by one form, and another by the other. */
+static inline int forms_differ(uint64_t answer)
+{
+    const char *otherwise;
+    if (!leaves_to_tell(answer))
+        return 0;
+    count_heard(bytes_of(RECORD, LIBRARY));
+    otherwise = heard_otherwise();
+    if (otherwise == NULL)
+        return 0;
+    name_the_call();
+    printf("its sense in both forms: %s\n", otherwise);
+    return 1;
+}
+
 /* ---- read-only pages */
 
 /* Whether the call lays bytes on this partition, even if they stood there already: an object again, or zeros. */
@@ -307,6 +331,7 @@ static inline uint64_t make_call(struct call call)
     differs = answer_differs(by_library, by_model);
     for (int i = 0; i < SLICES; i++)
         differs |= slice_differs((enum slice)i);
+    differs |= forms_differ(by_library);
     reached.mismatches += (unsigned long)differs;
     return by_model;
 }

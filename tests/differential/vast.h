@@ -62,8 +62,7 @@ static inline void fill_room(enum slice slice)
  * command needs, and so much more. */
 static inline void make_ready(uint8_t code, uint8_t byte_1, uint64_t number, size_t more)
 {
-    struct session asked = {
-        .block = block, .block_length = get32(bytes_of(RECORD, MODEL) + STORMTOGGLE_RECORD_BLOCK_LENGTH)};
+    struct session asked = session_with(block);
     memset(block, 0, 20);
     block[0] = code;
     block[1] = byte_1;

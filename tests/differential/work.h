@@ -76,7 +76,8 @@ static inline void set_block(uint8_t code)
     switch (code) {
     case REWIND: block[1] = (uint8_t)draw(2); break;
     case REQUEST_SENSE:
-        block[AT_ALLOCATION] = (uint8_t)(one_in(2) ? SENSE_BYTES : one_in(2) ? 255 : draw(24));
+        block[1] = (uint8_t)(one_in(2) * DESC);
+        block[AT_ALLOCATION] = (uint8_t)(one_in(3) ? SENSE_BYTES : one_in(2) ? ALLOCATION_MOST : draw(31));
         break;
     case READ:
         block[1] = (uint8_t)(fixed ? FIXED | one_in(40) * SILI : one_in(3) * SILI);
@@ -184,7 +185,7 @@ static inline void lend_received(size_t length)
 
 static inline void lend_buffers(void)
 {
-    struct session asked = {.block = block, .block_length = seen.block_length};
+    struct session asked = session_with(block);
     uint64_t take = bytes_to_take(&asked), hand_over = bytes_to_hand_over(&asked);
     place(SENT, likely_room(take));
     if (block[0] == MODE_SELECT)
@@ -200,14 +201,19 @@ static inline uint64_t call_command(void)
     return answer;
 }
 
-static inline uint64_t likely_command(void)
+static inline uint64_t likely_command_of(uint8_t code)
 {
-    set_block(likely_code());
+    set_block(code);
     if (one_in(40))
         block[draw(is_long_move(block[0]) ? BYTES_16 : BYTES_10)] ^= (uint8_t)(1 << draw(8));
     lend_block(likely_block_length());
     lend_buffers();
     return call_command();
+}
+
+static inline uint64_t likely_command(void)
+{
+    return likely_command_of(likely_code());
 }
 
 static inline enum slice either_partition(void)
@@ -251,6 +257,8 @@ static inline uint64_t likely_call(uint64_t answer_before)
     look();
     if (answer_before == refused(BY_DRIVE) && one_in(3))
         return call_fresh();
+    if (STORMTOGGLE_STATUS(answer_before) != STORMTOGGLE_GOOD && one_in(8))
+        return likely_command_of(REQUEST_SENSE);
     if (!seen.loaded && one_in(3))
         return call_mount();
     switch (draw(240)) {

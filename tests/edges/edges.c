@@ -3,6 +3,7 @@
 #include "drive.h"
 #include "crossed.h"
 #include "data.h"
+#include "descriptors.h"
 #include "ends.h"
 #include "long.h"
 #include "merged.h"
@@ -257,6 +258,7 @@ int main(void)
     objects_crossed();
     merged_moves();
     mounted_drives();
+    sense_in_descriptors();
     three_lives();
     printf("%lu cases\n", cases_run);
     return tally();

@@ -153,6 +153,8 @@ static inline void count_command(unsigned refusal)
     happens(CODES_NOT_SERVED, told == TOLD_NOT_SERVED);
     happens(BAD_FIELDS, told == TOLD_FIELD);
     happens(STOPPED_BY_PROTECTION, told == TOLD_PROTECTED);
+    happens(SENSE_DESCRIBED, latest.kind == REQUEST_SENSE && refusal == 0 && told == TOLD_GOOD &&
+                                 latest.block.at[1] & DESC);
 }
 
 /* The block, and what is sent and received, stand in latest already. */

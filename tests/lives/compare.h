@@ -334,7 +334,7 @@ static inline int reads_meet_by_crossing(uint8_t *record, const struct tape *tap
 static inline int mount_for_reading(void)
 {
     struct loan loan = whole_cartridge();
-    uint8_t sense[SENSE_BYTES];
+    uint8_t form = draw(2) * DESC, sense[SENSE_BYTES];
     uint64_t answer;
     stormtoggle_fresh(reading_record, RECORD_BYTES);
     answer = stormtoggle_mount(reading_record, RECORD_BYTES, bytes_at(loan, 0), length_at(loan, 0), bytes_at(loan, 1),
@@ -346,7 +346,7 @@ static inline int mount_for_reading(void)
     if (one_in(2))
         command_whole(reading_record, (struct bytes)SIX(TEST_UNIT_READY, 0, 0), NULL, 0);
     else
-        command_whole(reading_record, (struct bytes)SIX(REQUEST_SENSE, 0, SENSE_BYTES), sense, SENSE_BYTES);
+        command_whole(reading_record, (struct bytes)SIX(REQUEST_SENSE, form, SENSE_BYTES), sense, SENSE_BYTES);
     return 1;
 }
 

@@ -14,7 +14,7 @@ enum happening {
     LONE_FIRST, LONE_SECOND, LONE_BESIDE_ANOTHER, LONE_CHANGED, ANOTHER_CHANGED,
     VIEWS, READS, BLOCKS_MET, FIXED_MET, ODD_MET, FILEMARKS_MET, ENDS_MET, ENDS_MET_IN_ZONE, FILES_LOCATED,
     FILES_SPACED, PAST_FILES_READ, PAST_FILES_IN_ZONE, OWN_READINGS, OWN_ABOVE_N, NEVER_BY_4, LISTS_READ_WHOLE,
-    CROSSED_SOME, CROSSED_TO_FILEMARK, CROSSINGS_ADDED, CROSSED_ON, CROSSED_BACK, HAPPENINGS
+    CROSSED_SOME, CROSSED_TO_FILEMARK, CROSSINGS_ADDED, CROSSED_ON, CROSSED_BACK, SENSE_DESCRIBED, HAPPENINGS
 };
 
 static const char *const happening_names[HAPPENINGS] = {
@@ -73,6 +73,7 @@ static const char *const happening_names[HAPPENINGS] = {
     [CROSSINGS_ADDED] = "readings where SPACEs add up to",
     [CROSSED_ON] = "SPACEs on, on the way there",
     [CROSSED_BACK] = "SPACEs back, on the way there",
+    [SENSE_DESCRIBED] = "senses told in descriptor form",
 };
 
 /* The house services stand behind the 256 operation codes. */

@@ -122,7 +122,10 @@ static inline void set_block(uint8_t code)
     block[0] = code;
     switch (code) {
     case REWIND: block[1] = (uint8_t)draw(2); break;
-    case REQUEST_SENSE: block[AT_ALLOCATION] = (uint8_t)draw(40); break;
+    case REQUEST_SENSE:
+        block[1] = one_in(2) ? DESC : 0;
+        block[AT_ALLOCATION] = (uint8_t)draw(40);
+        break;
     case READ:
         block[1] = (uint8_t)(fixed ? FIXED : one_in(3) ? SILI : 0);
         set_count(read_length(fixed));

@@ -157,7 +157,7 @@ space16 code count = sixteen 0x91 code 0 count
 -- in the order of the kinds
 unfoldable pub leaving : List Trap
 leaving =
-    turns (at 1 allOnes) (six 0x00 0 0) E (goodAnswer 0) (at 1 nothingKept) ∷
+    alone (at 1 (plain 6 0x28 0)) (ask 1 255) E [] (nines 12) (goodAnswer 12) (at 1 nothingKept) E (stream 0x6 0x28 0x00 0x00) ∷
     turns (loaded mediumChanged 1 mountedBlockLength nothingKept) (six 0x00 0 0) E (check 0) (at 1 (plain 6 0x28 0)) ∷
     turns (bare powerOn 0 nothingKept) (six 0x12 0 0) [] (check 0) (bare 0 0 (plain 6 0x29 0)) ∷
     turns (bare 0 0 nothingKept) (six 0x12 0 0) [] (check 0) (bare 0 0 (plain 5 0x20 0)) ∷
@@ -182,8 +182,8 @@ leaving =
 -- of the record that is left, on the same partition: the reply in descriptor form, and the kept bytes in fixed form
 abbrev inBoth : (List ℕ → List ℕ) → List ℕ → List ℕ → List ℕ → List Trap
 inBoth rec part sense reply =
-    alone (rec sense) (ask 1 255) part [] (nines 24) (goodAnswer (length reply)) (rec nothingKept) part (over (nines 24) 0 reply) ∷
-    alone (rec sense) (ask 0 255) part [] (nines 24) (goodAnswer 18) (rec nothingKept) part (over (nines 24) 0 sense) ∷
+    alone (rec sense) (ask 1 255) part [] (nines (length reply)) (goodAnswer (length reply)) (rec nothingKept) part reply ∷
+    alone (rec sense) (ask 0 255) part [] (nines (length sense)) (goodAnswer (length sense)) (rec nothingKept) part sense ∷
     []
 
 unfoldable pub asked : List Trap

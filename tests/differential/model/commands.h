@@ -196,26 +196,39 @@ static inline void mode_select(struct session *s)
     s->carried = length;
 }
 
-static inline void request_sense(struct session *s, const uint8_t *kept)
+/* The slips of the descriptor form leave behind what GOOD clears. */
+static inline void slip_in_clearing(struct session *s, uint8_t attention)
 {
-    if (s->attention != ATTENTION_NONE) {
-        tell_attention(s);
-        hand_over(s, s->sense);
-        memcpy(s->sense, nothing_told, SENSE_BYTES);
-        s->check_condition = 0;
-    } else {
-        hand_over(s, kept);
-    }
+    int asks_for_none = s->block[AT_ALLOCATION] == 0;
+    if ((s->block[1] & DESC) == 0)
+        return;
+    if (FAULT == 160)
+        s->sense[STORMTOGGLE_SENSE_FIRST] = DESC_FIRST;
+    if (FAULT == 161 || (FAULT == 176 && asks_for_none))
+        memcpy(s->sense, s->kept, SENSE_BYTES);
+    if (FAULT == 162 || (FAULT == 176 && asks_for_none))
+        s->attention = attention;
+}
+
+/* "GOOD clears both": the attention, and the kept sense as every command that is GOOD does. */
+static inline void request_sense(struct session *s)
+{
+    struct reply reply = sense_reply(s);
+    uint8_t attention = s->attention;
+    hand_over(s, reply.bytes);
+    s->attention = ATTENTION_NONE;
+    slip_in_clearing(s, attention);
+    form_before = s->block[1] & DESC;
 }
 
 /* ---- a command */
 
-static inline void act(struct session *s, const uint8_t *kept)
+static inline void act(struct session *s)
 {
     static const uint8_t limits[LIMITS_BYTES] = {0x00, 0x01, 0x00, 0x00, 0x00, 0x01};
     switch (s->block[0]) {
     case REWIND: s->position = 0; break;
-    case REQUEST_SENSE: request_sense(s, kept); break;
+    case REQUEST_SENSE: request_sense(s); break;
     case READ_BLOCK_LIMITS: hand_over(s, limits); break;
     case READ:
         if (is_fixed(s->block))
@@ -259,6 +272,7 @@ static inline void take_fields(struct session *s, const uint8_t *record)
     s->attention = record[STORMTOGGLE_RECORD_ATTENTION];
     s->position = cut(cut(get32(record + STORMTOGGLE_RECORD_POSITION), 13, 16), 14, 17);
     s->block_length = get32(record + STORMTOGGLE_RECORD_BLOCK_LENGTH);
+    s->kept = record + STORMTOGGLE_RECORD_SENSE;
     memcpy(s->sense, nothing_told, SENSE_BYTES);
     s->check_condition = 0;
     s->carried = s->crossed = s->counted = s->filemarks_crossed = 0;
@@ -276,6 +290,14 @@ static inline void lay_fields(const struct session *s, uint8_t *record)
     put32(record + STORMTOGGLE_RECORD_POSITION, (uint32_t)s->position);
     put32(record + STORMTOGGLE_RECORD_BLOCK_LENGTH, (uint32_t)s->block_length);
     memcpy(record + STORMTOGGLE_RECORD_SENSE, s->sense, SENSE_BYTES);
+}
+
+/* By number 3. The slip clears all the same. */
+static inline uint64_t refused_for_room(const struct session *s, uint8_t *record)
+{
+    if (FAULT == 182 && s->block[0] == REQUEST_SENSE && s->block[1] & DESC)
+        memcpy(record + STORMTOGGLE_RECORD_SENSE, nothing_told, SENSE_BYTES);
+    return refused_command(s, BY_RECEIVED);
 }
 
 static inline uint64_t model_command(uint8_t *record, size_t record_length, const uint8_t *block, size_t block_length,
@@ -303,12 +325,13 @@ static inline uint64_t model_command(uint8_t *record, size_t record_length, cons
     if (!ends_before_the_act(s)) {
         if (bytes_to_take(s) > sent_length)
             return refused_command(s, BY_SENT);
-        if (bytes_to_hand_over(s) > received_length)
-            return refused_command(s, BY_RECEIVED);
-        act(s, record + STORMTOGGLE_RECORD_SENSE);
+        if (room_needed(s) > received_length)
+            return refused_for_room(s, record);
+        act(s);
     }
     lay_fields(s, record);
     crossed_before = s->crossed;
+    residue_before = s->check_condition && !fits_32_bits(s->residue) ? s->residue : 0;
     return answered(s->check_condition, cut(cut(cut(s->carried, 20, 24), 21, 28), 31, 29), told_as_crossed(s));
 }
 

@@ -2,7 +2,7 @@
 #ifndef MODEL_MOVES_H
 #define MODEL_MOVES_H
 
-#include "order.h"
+#include "replies.h"
 
 /* ---- over objects */
 

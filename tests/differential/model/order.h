@@ -14,7 +14,8 @@ struct session {
     uint8_t *received;
     uint8_t loaded, partitions, current, attention;
     uint64_t position, block_length;
-    uint8_t sense[SENSE_BYTES]; /* what is kept after the command */
+    const uint8_t *kept;        /* the eighteen bytes kept before the command */
+    uint8_t sense[SENSE_BYTES]; /* what is kept after it */
     int check_condition;
     uint64_t carried;
     uint64_t crossed;  /* by SPACE, object by object */
@@ -232,11 +233,20 @@ static inline int has_no_length(const struct session *s)
     return s->block_length == 0 || slips_as_mounted(s, 149);
 }
 
+/* The slips take one bit of REQUEST SENSE's byte 1 more, or none. */
+static inline uint8_t mask_of(const struct served *served, unsigned byte)
+{
+    int has_form = served->code == REQUEST_SENSE && byte == 1;
+    if (FAULT == 163 && has_form)
+        return DESC | DESC << 1;
+    return FAULT == 166 && has_form ? 0 : served->mask[byte];
+}
+
 static inline int fields_are_wrong(const struct session *s, const struct served *served)
 {
     const uint8_t *block = s->block;
     for (unsigned i = 1; i < block_bytes(block[0]); i++)
-        if (block[i] & ~served->mask[i])
+        if (block[i] & ~mask_of(served, i))
             return 1;
     switch (block[0]) {
     case READ: return is_fixed(block) && (block[1] & SILI || has_no_length(s));
@@ -264,23 +274,6 @@ static inline uint64_t bytes_to_take(const struct session *s)
     }
 }
 
-static inline uint64_t mode_bytes(const struct session *s)
-{
-    return s->block[1] & DBD ? MODE_HEADER : MODE_BYTES;
-}
-
-static inline uint64_t bytes_to_hand_over(const struct session *s)
-{
-    switch (s->block[0]) {
-    case REQUEST_SENSE: return smaller(s->block[AT_ALLOCATION], SENSE_BYTES);
-    case READ_BLOCK_LIMITS: return LIMITS_BYTES;
-    case READ: return transfer_bytes(s);
-    case MODE_SENSE: return smaller(s->block[AT_ALLOCATION], mode_bytes(s));
-    case READ_POSITION: return s->block[1] == FORM_LONG ? LONG_BYTES : SHORT_BYTES;
-    default: return 0;
-    }
-}
-
 static inline int list_length_is_right(uint8_t length)
 {
     return length == 0 || length == MODE_HEADER || length == MODE_BYTES;
@@ -300,8 +293,11 @@ static inline int ends_before_the_act(struct session *s)
         return tell_attention(s), 1;
     if (served == NULL)
         return tell(s, TOLD_NOT_SERVED, 0), 1;
-    if (fields_are_wrong(s, served))
+    if (fields_are_wrong(s, served)) {
+        if (FAULT == 183 && block[0] == REQUEST_SENSE && block[1] & DESC)
+            s->attention = ATTENTION_NONE;
         return tell(s, TOLD_FIELD, 0), 1;
+    }
     if (block[0] == MODE_SELECT && !list_length_is_right(block[AT_ALLOCATION]))
         return tell(s, TOLD_LIST_LENGTH, 0), 1;
     if (!s->loaded && !served->without_cartridge)
