@@ -147,16 +147,20 @@ static inline void test_unit_ready(struct drive *d)
     carry_out(d, command, sizeof command, NO_DATA);
 }
 
-static inline void request_sense(struct drive *d, uint8_t sense[STORMTOGGLE_SENSE_LENGTH])
+/* Byte 1 of REQUEST SENSE: the form, which is this call's own. What it tells is read, and then no longer kept. */
+enum sense_form { IN_FIXED_FORM = 0x00, IN_DESCRIPTOR_FORM = 0x01 };
+
+static inline struct sense request_sense(struct drive *d, enum sense_form form)
 {
-    const uint8_t command[SIX] = {REQUEST_SENSE, 0, 0, 0, STORMTOGGLE_SENSE_LENGTH};
-    ask(d, "REQUEST SENSE");
-    carry_out(d, command, sizeof command, RECEIVE(sense, STORMTOGGLE_SENSE_LENGTH));
-    if (STORMTOGGLE_CARRIED(d->answer) < STORMTOGGLE_SENSE_LENGTH)
-        return;
+    uint8_t bytes[STORMTOGGLE_DESCRIPTORS_BOTH] = {0};
+    const uint8_t command[SIX] = {REQUEST_SENSE, form, 0, 0, sizeof bytes};
+    ask(d, "REQUEST SENSE in %s form", form == IN_DESCRIPTOR_FORM ? "descriptor" : "fixed");
+    carry_out(d, command, sizeof command, RECEIVE(bytes, sizeof bytes));
+    struct sense told = sense_of(bytes, STORMTOGGLE_CARRIED(d->answer));
     printf("    it tells: ");
-    print_sense(stdout, sense);
+    print_sense(stdout, told);
     printf("\n");
+    return told;
 }
 
 static inline void rewind_tape(struct drive *d)

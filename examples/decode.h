@@ -1,5 +1,6 @@
-/* decode.h: what a service answered, in words: refusals, status, sense and its residue. Part of facility.c. The numbers
- * of an answer, the record and the sense are the public header's; the keys and codes that a drive tells stand here. */
+/* decode.h: what a service answered, in words: refusals, status, sense in either form and its residue. Part of
+ * facility.c. The numbers of an answer, the record and the sense are the public header's; the keys and codes that a
+ * drive tells stand here. */
 #ifndef DECODE_H
 #define DECODE_H
 
@@ -49,6 +50,8 @@ enum condition {
     NOT_ALL_WRITTEN = CONDITION(STORMTOGGLE_EOM | VOLUME_OVERFLOW, AT_END_OF_PARTITION)
 };
 
+enum { FLAGS = STORMTOGGLE_FILEMARK | STORMTOGGLE_EOM | STORMTOGGLE_ILI };
+
 /* READ POSITION's long form: its length, its bits of byte 0, and the low 4 bytes of each of its numbers. */
 enum { POSITION_LENGTH = 32, POSITION_BEGINNING = 0x80, POSITION_WARNING = 0x40 };
 enum { POSITION_PARTITION = 4, POSITION_OBJECT = 12, POSITION_FILEMARKS = 20 };
@@ -58,31 +61,90 @@ static inline uint32_t number_at(const uint8_t *at)
     return (uint32_t)at[0] << 24 | (uint32_t)at[1] << 16 | (uint32_t)at[2] << 8 | at[3];
 }
 
-static inline unsigned code_of(const uint8_t *sense)
+/* ---- sense, in either form */
+
+/* What a sense tells. */
+struct sense {
+    uint8_t flags, key;
+    unsigned code;
+    int has_residue;
+    int64_t residue;
+};
+
+/* A number of so many bytes in two's complement: the sign is that of its first byte. */
+static inline int64_t signed_at(const uint8_t *at, int bytes)
 {
-    return (unsigned)sense[STORMTOGGLE_SENSE_ASC] << 8 | sense[STORMTOGGLE_SENSE_ASCQ];
+    uint64_t number = at[0] < 0x80 ? 0 : UINT64_MAX;
+    for (int i = 0; i < bytes; i++)
+        number = number << 8 | at[i];
+    return number <= INT64_MAX ? (int64_t)number : -(int64_t)~number - 1;
 }
 
-static inline uint32_t condition_of(const uint8_t *sense)
+static inline unsigned code_at(const uint8_t *asc, const uint8_t *ascq)
 {
-    return CONDITION((uint32_t)sense[STORMTOGGLE_SENSE_KEY], code_of(sense));
+    return (unsigned)*asc << 8 | *ascq;
+}
+
+/* The fixed form, as a record keeps it. A residue that 32 bits do not hold is not valid, and the information then 0: so
+ * the sign is never in doubt. */
+static inline struct sense sense_in_fixed_form(const uint8_t *bytes)
+{
+    uint8_t flags_and_key = bytes[STORMTOGGLE_SENSE_KEY];
+    struct sense sense = {.key = flags_and_key & STORMTOGGLE_KEY, .flags = flags_and_key & FLAGS,
+                          .code = code_at(bytes + STORMTOGGLE_SENSE_ASC, bytes + STORMTOGGLE_SENSE_ASCQ),
+                          .has_residue = bytes[STORMTOGGLE_SENSE_FIRST] == STORMTOGGLE_VALID};
+    if (sense.has_residue)
+        sense.residue = signed_at(bytes + STORMTOGGLE_SENSE_INFORMATION, 4);
+    return sense;
+}
+
+/* The descriptor of a type, with so many bytes behind its byte 1, among those that byte 7 counts and that were
+ * received; NULL if there is none. A host looks for it by its type, wherever it stands. */
+static inline const uint8_t *descriptor_of(const uint8_t *bytes, size_t length, uint8_t type, uint8_t rest)
+{
+    size_t end = STORMTOGGLE_DESCRIPTORS_START + (size_t)bytes[STORMTOGGLE_DESCRIPTORS_REST];
+    if (end > length)
+        end = length;
+    for (size_t at = STORMTOGGLE_DESCRIPTORS_START; at + 2 + rest <= end; at += 2u + bytes[at + 1])
+        if (bytes[at] == type && bytes[at + 1] == rest)
+            return bytes + at;
+    return NULL;
+}
+
+static inline struct sense sense_in_descriptors(const uint8_t *bytes, size_t length)
+{
+    const uint8_t *stream = descriptor_of(bytes, length, STORMTOGGLE_STREAM_TYPE, STORMTOGGLE_STREAM_REST);
+    const uint8_t *information =
+        descriptor_of(bytes, length, STORMTOGGLE_INFORMATION_TYPE, STORMTOGGLE_INFORMATION_REST);
+    struct sense sense = {.key = bytes[STORMTOGGLE_DESCRIPTORS_KEY] & STORMTOGGLE_KEY,
+                          .code = code_at(bytes + STORMTOGGLE_DESCRIPTORS_ASC, bytes + STORMTOGGLE_DESCRIPTORS_ASCQ),
+                          .has_residue = information != NULL};
+    if (stream != NULL)
+        sense.flags = stream[STORMTOGGLE_STREAM_FLAGS] & FLAGS;
+    if (information != NULL)
+        sense.residue = signed_at(information + STORMTOGGLE_INFORMATION_VALUE, 8);
+    return sense;
+}
+
+/* A host tells the forms apart by their first byte. */
+static inline struct sense sense_of(const uint8_t *bytes, size_t length)
+{
+    return bytes[0] == STORMTOGGLE_IN_DESCRIPTORS ? sense_in_descriptors(bytes, length) : sense_in_fixed_form(bytes);
+}
+
+static inline uint32_t condition_of(struct sense sense)
+{
+    return CONDITION((uint32_t)(sense.flags | sense.key), sense.code);
 }
 
 /* Whether the end of the partition is near: EOM by a command that wrote, or by READ, SPACE or LOCATE at end of data. At
  * the beginning EOM says that the tape begins there, and nothing of its end. */
-static inline int is_near_end(const uint8_t *sense)
+static inline int is_near_end(struct sense sense)
 {
-    unsigned code = code_of(sense);
-    return (sense[STORMTOGGLE_SENSE_KEY] & STORMTOGGLE_EOM) && (code == AT_END_OF_PARTITION || code == AT_END_OF_DATA);
+    return (sense.flags & STORMTOGGLE_EOM) && (sense.code == AT_END_OF_PARTITION || sense.code == AT_END_OF_DATA);
 }
 
-/* The information is 32 bits in two's complement. A residue that they do not hold is not valid, and the information
- * then 0: so the sign is never in doubt. */
-static inline long residue_of(const uint8_t *sense)
-{
-    uint32_t information = number_at(sense + STORMTOGGLE_SENSE_INFORMATION);
-    return information <= INT32_MAX ? (long)information : -(long)~information - 1;
-}
+/* ---- in words */
 
 static inline const char *key_in_words(unsigned key)
 {
@@ -134,19 +196,18 @@ static inline const char *refusal_in_words(unsigned refusal)
 
 /* Each of these gives back how many characters it printed. */
 
-static inline int print_sense(FILE *to, const uint8_t *sense)
+static inline int print_sense(FILE *to, struct sense sense)
 {
-    uint8_t flags_and_key = sense[STORMTOGGLE_SENSE_KEY];
-    int printed = fprintf(to, "%s %02X/%02X %s", key_in_words(flags_and_key & STORMTOGGLE_KEY),
-                          sense[STORMTOGGLE_SENSE_ASC], sense[STORMTOGGLE_SENSE_ASCQ], code_in_words(code_of(sense)));
-    if (flags_and_key & STORMTOGGLE_FILEMARK)
+    int printed = fprintf(to, "%s %02X/%02X %s", key_in_words(sense.key), sense.code >> 8, sense.code & 0xff,
+                          code_in_words(sense.code));
+    if (sense.flags & STORMTOGGLE_FILEMARK)
         printed += fprintf(to, ", FILEMARK");
-    if (flags_and_key & STORMTOGGLE_EOM)
+    if (sense.flags & STORMTOGGLE_EOM)
         printed += fprintf(to, ", EOM");
-    if (flags_and_key & STORMTOGGLE_ILI)
+    if (sense.flags & STORMTOGGLE_ILI)
         printed += fprintf(to, ", ILI");
-    if (sense[STORMTOGGLE_SENSE_FIRST] == STORMTOGGLE_VALID)
-        printed += fprintf(to, ", residue %ld", residue_of(sense));
+    if (sense.has_residue)
+        printed += fprintf(to, ", residue %lld", (long long)sense.residue);
     return printed;
 }
 
@@ -163,7 +224,8 @@ static inline int print_answer(FILE *to, uint64_t answer, const uint8_t *record)
     if (STORMTOGGLE_REFUSAL(answer) != 0)
         return print_done(to, answer);
     int is_good = STORMTOGGLE_STATUS(answer) == STORMTOGGLE_GOOD;
-    int printed = is_good ? fprintf(to, "GOOD") : print_sense(to, record + STORMTOGGLE_RECORD_SENSE);
+    struct sense kept = sense_in_fixed_form(record + STORMTOGGLE_RECORD_SENSE);
+    int printed = is_good ? fprintf(to, "GOOD") : print_sense(to, kept);
     if (STORMTOGGLE_CARRIED(answer) > 0)
         printed += fprintf(to, ", %u bytes", (unsigned)STORMTOGGLE_CARRIED(answer));
     if (STORMTOGGLE_CROSSED(answer) > 0)

@@ -4,12 +4,14 @@
  *
  * The files are made anew. TILES is partition 0 of a cartridge: cycles of tiles, a filemark after each. INDEX is its
  * partition 1, and is document 01's example E in the end. TIER is a second cartridge, of one partition. What is not as
- * it must be ends the day with a line that says so.
+ * it must be ends the day with a line that says so (expect.h).
  */
 #define _POSIX_C_SOURCE 200809L
 #include "calls.h"
 #include "decode.h"
+#include "expect.h"
 #include "stormtoggle.h"
+#include "tier.h"
 #include <errno.h>
 #include <fcntl.h>
 #include <stdio.h>
@@ -22,9 +24,6 @@
 enum { TILES = 0, INDEX = 1, TILES_LENGTH = 65536, INDEX_LENGTH = STORMTOGGLE_SHORTEST_IMAGE };
 enum { TILE = 3840, CYCLES = 3, BATCH = 5 };
 
-/* A tier's tiles are blocks of the length that a mount sets. */
-enum { TIER_TILE = STORMTOGGLE_MOUNTED_BLOCK_LENGTH, TIER_TILES = 4, TIER_LENGTH = (TIER_TILES + 2) * TIER_TILE };
-
 /* The index: how many tiles each cycle has. With a filemark after each cycle it tells where every tile stands. */
 static const uint8_t tiles_of[CYCLES] = {1, 2, 3};
 
@@ -36,68 +35,7 @@ static const uint8_t example_e[INDEX_LENGTH] = {
     [51] = 0x02, [59] = 0x28, [63] = 0x40, /* trailer: N, flags 0, D, L */
 };
 
-/* ---- what is expected */
-
-static void must_equal(const struct drive *d, const char *what, long seen, long wanted)
-{
-    if (seen == wanted)
-        return;
-    fflush(stdout);
-    fprintf(stderr, "facility: %s: %s is %ld (%lxh), and not %ld (%lxh)\n", d->asked, what, seen, (unsigned long)seen,
-            wanted, (unsigned long)wanted);
-    exit(EXIT_FAILURE);
-}
-
-static void expect_bytes(const struct drive *d, const uint8_t *seen, const uint8_t *wanted, size_t length)
-{
-    size_t same = 0;
-    while (same < length && seen[same] == wanted[same])
-        same++;
-    must_equal(d, "the number of bytes as expected", (long)same, (long)length);
-}
-
-static void expect_refusal(const struct drive *d, unsigned refusal)
-{
-    must_equal(d, "the refusal", STORMTOGGLE_REFUSAL(d->answer), refusal);
-}
-
-static void expect_carried(const struct drive *d, uint32_t carried)
-{
-    must_equal(d, "the number of bytes carried", STORMTOGGLE_CARRIED(d->answer), carried);
-}
-
-/* By SPACE; a filemark that stops it is crossed, and is not in its residue. */
-static void expect_crossed(const struct drive *d, long objects)
-{
-    must_equal(d, "the number of objects crossed", STORMTOGGLE_CROSSED(d->answer), objects);
-}
-
-/* The refusal comes first, for a refused command leaves the sense of the one before. GOOD leaves the empty sense. */
-static void expect(const struct drive *d, enum condition condition, long residue, int partition, long object)
-{
-    const uint8_t *sense = d->record + STORMTOGGLE_RECORD_SENSE;
-    expect_refusal(d, 0);
-    must_equal(d, "the status", STORMTOGGLE_STATUS(d->answer),
-               condition == GOOD ? STORMTOGGLE_GOOD : STORMTOGGLE_CHECK_CONDITION);
-    must_equal(d, "the sense (byte 2, ASC, ASCQ)", condition_of(sense), condition);
-    must_equal(d, "the residue", residue_of(sense), residue);
-    must_equal(d, "the partition", d->record[STORMTOGGLE_RECORD_CURRENT], partition);
-    must_equal(d, "the object number", number_at(d->record + STORMTOGGLE_RECORD_POSITION), object);
-}
-
-static void expect_good(const struct drive *d, int partition, long object)
-{
-    expect(d, GOOD, 0, partition, object);
-}
-
 /* ---- the day's tiles */
-
-/* The tiles of a day differ, so that one read in place of another shows. */
-static void fill_tile(uint8_t *tile, unsigned length, unsigned cycle, unsigned number)
-{
-    for (unsigned i = 0; i < length; i++)
-        tile[i] = (uint8_t)(i + i / 256 + 16 * cycle + number);
-}
 
 static void make_tile(uint8_t *tile, unsigned cycle, unsigned number)
 {
@@ -126,7 +64,6 @@ static void expect_tile(const struct drive *d, const uint8_t *seen, unsigned cyc
 /* The drive first tells once that it was reset, then that it is empty; after the mount, that the medium is another. */
 static void open_the_day(struct drive *d)
 {
-    uint8_t sense[STORMTOGGLE_SENSE_LENGTH];
     puts("\nPower on, and a blank cartridge");
     fresh(d);
     expect_refusal(d, 0);
@@ -134,9 +71,9 @@ static void open_the_day(struct drive *d)
         blank(d, partition);
         expect_refusal(d, 0);
     }
-    request_sense(d, sense);
+    struct sense told = request_sense(d, IN_FIXED_FORM);
     expect_good(d, 0, 0);
-    must_equal(d, "what is told", condition_of(sense), POWER_ON);
+    must_equal(d, "what is told", condition_of(told), POWER_ON);
     test_unit_ready(d);
     expect(d, MEDIUM_NOT_PRESENT, 0, 0, 0);
     mount(d);
@@ -166,7 +103,8 @@ static void write_cycles(struct drive *d)
     }
 }
 
-/* SPACE over blocks crosses the filemark that stops it. The residue is what is missing of the count, sign and all. */
+/* SPACE over blocks crosses the filemark that stops it. The residue is what is missing of the count, sign and all: in
+ * 32 bits of the one form and in 64 of the other a host reads the same. */
 static void go_back(struct drive *d)
 {
     uint8_t bytes[TILE + 256];
@@ -174,6 +112,12 @@ static void go_back(struct drive *d)
     space(d, BLOCKS, -5);
     expect(d, FILEMARK_DETECTED, -5, TILES, 8);
     expect_crossed(d, 1);
+    expect_told(d, IN_FIXED_FORM, FILEMARK_DETECTED, -5);
+    space(d, FILEMARKS, 1);
+    expect_good(d, TILES, 9);
+    space(d, BLOCKS, -5);
+    expect(d, FILEMARK_DETECTED, -5, TILES, 8);
+    expect_told(d, IN_DESCRIPTOR_FORM, FILEMARK_DETECTED, -5);
     space(d, BLOCKS, -1);
     expect_good(d, TILES, 7);
     expect_crossed(d, 1);
@@ -264,7 +208,7 @@ static void plan(struct drive *d, uint8_t partition, enum condition condition, l
 {
     locate(d, partition, UINT32_MAX);
     expect(d, condition, 0, partition, objects);
-    int is_near = is_near_end(d->record + STORMTOGGLE_RECORD_SENSE);
+    int is_near = is_near_end(sense_in_fixed_form(d->record + STORMTOGGLE_RECORD_SENSE));
     must_equal(d, "whether its end is near", is_near, condition == END_OF_DATA_IN_WARNING);
     printf("    planned: %s\n", is_near ? "change the cartridge before more goes to this partition" : "it takes more");
 }
@@ -384,69 +328,6 @@ static void close_the_day(struct drive *d)
     expect(d, MEDIUM_NOT_PRESENT, 0, 0, 0);
 }
 
-/* Operators forget MODE SELECT: here none is sent. The drive has the length that was set for the last cartridge, and
- * the mount sets its own; a driver that asks is told that one, and writes blocks of it. */
-static void write_a_tier(struct drive *d, struct partition tier)
-{
-    static uint8_t tiles[TIER_TILES * TIER_TILE], back[(TIER_TILES + 1) * TIER_TILE];
-    size_t length;
-    puts("\nAnother cartridge: a tier of tiles in fixed blocks, with no MODE SELECT");
-    d->tape[0] = tier;
-    d->tape[1] = (struct partition){NULL, 0};
-    blank(d, 0);
-    expect_refusal(d, 0);
-    must_equal(d, "the block length before", number_at(d->record + STORMTOGGLE_RECORD_BLOCK_LENGTH), TILE);
-    mount(d);
-    expect_refusal(d, 0);
-    test_unit_ready(d);
-    expect(d, MEDIUM_CHANGED, 0, 0, 0);
-    must_equal(d, "the block length told", sense_block_length(d), TIER_TILE);
-    expect_good(d, 0, 0);
-    for (unsigned number = 0; number < TIER_TILES; number++)
-        fill_tile(tiles + number * TIER_TILE, TIER_TILE, CYCLES + 2, number);
-    write_fixed(d, tiles, TIER_TILES);
-    expect_good(d, 0, TIER_TILES);
-    expect_carried(d, sizeof tiles);
-    write_filemarks(d, 1);
-    expect_good(d, 0, TIER_TILES + 1);
-    rewind_tape(d);
-    expect_good(d, 0, 0);
-    read_fixed(d, back, TIER_TILES + 1);
-    expect(d, FILEMARK_DETECTED, 1, 0, TIER_TILES + 1);
-    expect_carried(d, sizeof tiles);
-    expect_bytes(d, back, tiles, sizeof tiles);
-    const uint8_t *tile = view(d, 0, 2, &length);
-    must_equal(d, "the block's length", (long)length, TIER_TILE);
-    expect_bytes(d, tile, tiles + 2 * TIER_TILE, TIER_TILE);
-    printf("    compared: read and viewed, these are the bytes of the tier's %d tiles\n", TIER_TILES);
-}
-
-/* A host that writes variable blocks is not stopped. But it has to select length 0 for SILI to hide a longer block. */
-static void write_variable_blocks(struct drive *d)
-{
-    enum { RECORD = 10240, PART = 4096 };
-    uint8_t record[RECORD], part[PART];
-    puts("\nA host there that writes variable blocks");
-    fill_tile(record, RECORD, CYCLES + 3, 0);
-    write_block(d, record, RECORD);
-    expect_good(d, 0, TIER_TILES + 2);
-    expect_carried(d, RECORD);
-    space(d, BLOCKS, -1);
-    expect_good(d, 0, TIER_TILES + 1);
-    read_sili(d, part, PART);
-    expect(d, WRONG_LENGTH, PART - RECORD, 0, TIER_TILES + 2);
-    space(d, BLOCKS, -1);
-    expect_good(d, 0, TIER_TILES + 1);
-    set_block_length(d, 0);
-    expect_good(d, 0, TIER_TILES + 1);
-    read_sili(d, part, PART);
-    expect_good(d, 0, TIER_TILES + 2);
-    expect_carried(d, PART);
-    expect_bytes(d, part, record, PART);
-    unload(d);
-    expect_good(d, 0, 0);
-}
-
 /* ---- the files */
 
 static void stop(const char *name)
@@ -488,7 +369,7 @@ int main(int count, char **words)
     wind(&d);
     send_as_one(&d);
     close_the_day(&d);
-    write_a_tier(&d, files[2]);
+    write_a_tier(&d, files[2], TILE);
     write_variable_blocks(&d);
     for (size_t i = 0; i < sizeof files / sizeof *files; i++)
         if (msync(files[i].image, files[i].length, MS_SYNC) != 0 || munmap(files[i].image, files[i].length) != 0)

@@ -72,8 +72,8 @@ enum {
     STORMTOGGLE_RECORD_SENSE = 12        /* 18 bytes, any: the kept sense; empty is 70h first, 0Ah in byte 7, else 0 */
 };
 
-/* The kept sense, which REQUEST SENSE gives too: how long it is, and where each field starts. A service makes its other
- * bytes 0. */
+/* The kept sense: how long it is, and where each field starts. A service makes its other bytes 0. REQUEST SENSE gives
+ * these bytes as they are, or those of a waiting attention; with bit 0 of byte 1 it gives them in descriptor form. */
 enum {
     STORMTOGGLE_SENSE_LENGTH = 18,
     STORMTOGGLE_SENSE_FIRST = 0,       /* 1 byte: F0h if the information is valid, else 70h */
@@ -91,6 +91,33 @@ enum {
  * (0/00/04). */
 enum { STORMTOGGLE_VALID = 0xf0, STORMTOGGLE_NOT_VALID = 0x70 };
 enum { STORMTOGGLE_FILEMARK = 0x80, STORMTOGGLE_EOM = 0x40, STORMTOGGLE_ILI = 0x20, STORMTOGGLE_KEY = 0x0f };
+
+/* What REQUEST SENSE with bit 0 of byte 1 gives, cut at its allocation: the same flags, key, codes and residue, in 24
+ * bytes if the information is valid, else in 12. The record stays in fixed form, and each call has the form that its
+ * own bit asks for; GOOD clears the attention and the kept sense in either. Bytes that are not named here are 0. (Of a
+ * kept sense that no service made it has the same bits, and the rest of it is dropped.) */
+enum {
+    STORMTOGGLE_DESCRIPTORS_BOTH = 24,   /* its length with an information descriptor, which comes first, */
+    STORMTOGGLE_DESCRIPTORS_STREAM = 12, /* and with the stream descriptor alone, which is always there */
+    STORMTOGGLE_DESCRIPTORS_FIRST = 0,   /* 1 byte: 72h */
+    STORMTOGGLE_DESCRIPTORS_KEY = 1,     /* 1 byte: the key */
+    STORMTOGGLE_DESCRIPTORS_ASC = 2,     /* 1 byte */
+    STORMTOGGLE_DESCRIPTORS_ASCQ = 3,    /* 1 byte */
+    STORMTOGGLE_DESCRIPTORS_REST = 7,    /* 1 byte: the number of bytes behind it, 16 or 4 */
+    STORMTOGGLE_DESCRIPTORS_START = 8    /* the descriptors */
+};
+enum { STORMTOGGLE_IN_DESCRIPTORS = 0x72 };
+
+/* A descriptor: its type, the number of bytes behind its byte 1, and what the type says. */
+enum {
+    STORMTOGGLE_INFORMATION_TYPE = 0x00,
+    STORMTOGGLE_INFORMATION_REST = 0x0a,
+    STORMTOGGLE_INFORMATION_VALID = 2, /* 1 byte: 80h */
+    STORMTOGGLE_INFORMATION_VALUE = 4, /* 8 bytes, big-endian: the residue in two's complement */
+    STORMTOGGLE_STREAM_TYPE = 0x04,
+    STORMTOGGLE_STREAM_REST = 0x02,
+    STORMTOGGLE_STREAM_FLAGS = 3 /* 1 byte: FILEMARK, EOM and ILI, as above the key of a kept sense */
+};
 
 /* Makes a fresh drive record: attention 29h, the empty sense, every other byte 0. Refusal 4, for its length only. */
 uint64_t stormtoggle_fresh(uint8_t *record, size_t record_len);

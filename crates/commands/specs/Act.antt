@@ -272,7 +272,7 @@ longForm = 0x06
 abbrev pub senseAsked : Drive → List ℕ
 senseAsked d = cond (eqb (d .attention) noAttention) (d .sense) (attentionSense (d .attention))
 
--- Q-4: in descriptor form where the command asks for it, in place of the eighteen bytes
+-- Q-4: "Newer hosts set bit 0 of byte 1 in REQUEST SENSE. Serve it with response code 72h", in place of 01's eighteen bytes
 abbrev pub senseReply : Drive → List ℕ → List ℕ
 senseReply d cmd = inForm (asksDescriptors cmd) (senseAsked d)
 

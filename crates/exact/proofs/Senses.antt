@@ -58,7 +58,7 @@ module _ (rec : List ℕ) (x : Lent) where
 
   -- ---- stopped
 
-  -- key, ASC and ASCQ alone: CHECK CONDITION, the bytes that are kept, and their parts
+  -- key, ASC and ASCQ alone: CHECK CONDITION, and the bytes that are kept
   record Plain (key asc ascq : ℕ) : Type 0 where
     status : R .answer .status ≡ checkCondition
     bytes-are : decodeOf (R .rec) .sense ≡ senseBytes (plainly key asc ascq)

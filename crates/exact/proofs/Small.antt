@@ -26,7 +26,7 @@ use Rattle.record.specs.Record.{attentionAt, senseAt, noAttention, decodeOf}
 use Rattle.sense.specs.declared.Sense.{Sense}
 use Rattle.sense.specs.Sense.{senseLength, illegalRequest, invalidListField, unqualified, partsOf, plainly, attentionSense}
 use Rattle.sense.specs.Descriptors.{descriptorBytes, inForm, bothLength, streamLength}
-use Rattle.sense.proofs.Forms.{form-length}
+use Rattle.sense.proofs.Forms.{form-most}
 use Rattle.codes.specs.declared.operation.Operation.{Operation}
 use Rattle.codes.specs.declared.operation.Operation.the-variants.{TestUnitReady, Rewind, RequestSense, ReadBlockLimits, Read, Write, WriteFilemarks, Space, ModeSelect, Erase, ModeSense, LoadUnload, Locate, ReadPosition, Space16, Locate16, NotServed}
 use Rattle.codes.specs.Fields.{fixedOf, transferOf, formOf, dbdOf, asksDescriptors, allocationOf}
@@ -115,15 +115,8 @@ form-short : (rec cmd : List ℕ) → length (senseReply (decodeOf rec) cmd) ≤
 unfolding inForm
 form-short rec cmd = go (asksDescriptors cmd)
   where
-    parts : Sense
-    parts = partsOf (senseAsked (decodeOf rec))
-
-    by : (v : Bool) → cond v bothLength streamLength ≤ bothLength
-    by true = omega arith
-    by false = omega arith
-
-    go : (t : Bool) → length (cond t (descriptorBytes parts) (senseAsked (decodeOf rec))) ≤ bothLength
-    go true = omega (arith, form-length parts, by (parts .valid))
+    go : (t : Bool) → length (cond t (descriptorBytes (partsOf (senseAsked (decodeOf rec)))) (senseAsked (decodeOf rec))) ≤ bothLength
+    go true = form-most (partsOf (senseAsked (decodeOf rec)))
     go false = omega (arith, sense-short rec)
 
 reply-short : (rec cmd : List ℕ) (o : Operation) → replyLength o (decodeOf rec) cmd ≤ longLength

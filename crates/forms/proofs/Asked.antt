@@ -15,7 +15,7 @@ use Rattle.answers.specs.Answers.{answered}
 use Rattle.sense.specs.Sense.{senseLength, partsOf, emptySense}
 use Rattle.sense.specs.Descriptors.{descriptorBytes, inForm, bothLength, streamLength}
 use Rattle.sense.specs.Reading.{Reading, readingOf}
-use Rattle.sense.proofs.Forms.{form-length}
+use Rattle.sense.proofs.Forms.{form-length, form-most}
 use Rattle.record.specs.Record.{recordLength, decodeOf, encodeOf, withSense}
 use Rattle.codes.specs.declared.operation.Operation.the-variants.{RequestSense}
 use Rattle.codes.specs.Fields.{asksDescriptors, allocationOf}
@@ -122,12 +122,8 @@ host-reads rec x y l a b tx hx ty hy = record {
     eighteen : length s ≡ senseLength
     eighteen = let t = produced-telling s p in ap length (t .is) ∙ sense-whole _
 
-    most : (v : Bool) → cond v bothLength streamLength ≤ bothLength
-    most true = omega arith
-    most false = omega arith
-
     fixed-given : given (commandCall rec x) ≡ s
     fixed-given = given-whole rec x a (rw tx (omega (arith, eighteen))) ∙ rw tx refl
 
     descriptors-given : given (commandCall rec y) ≡ inForm true s
-    descriptors-given = given-whole rec y b (rw ty (omega (arith, form-length (partsOf s), most (partsOf s .valid)))) ∙ rw ty refl
+    descriptors-given = given-whole rec y b (rw ty (omega (arith, form-most (partsOf s)))) ∙ rw ty refl

@@ -10,22 +10,22 @@ use Prim.Native.Nat.{ℕ, zero, suc, _+_, _*_, _-_, _/_, _%_, _^_, _<_}
 use native.Mathlib.Nat.{mod-mod, div-div-eq-div-mul}
 use native.Mathlib.Omega.{arith}
 use borrow.Author.Tests.{ltb-true, ltb-false}
-use lib.Bits.{bitAnd, and-mask, and-high}
+use lib.Bits.{bitAnd, and-high}
 use lib.Dec.{eqb, ltb}
 use lib.IntN.{ℤ}
 use lib.ListN.{getD}
 use Rattle.words.specs.Words.{be, bytes}
 use Rattle.words.specs.Signed.{signed, wrapped, fits32, extended}
 use Rattle.words.proofs.Laws.{be-bytes, be-lt}
-use Rattle.words.proofs.Stores.{spelt4, four-back, eight-bytes}
+use Rattle.words.proofs.Stores.{spelt4, four-back, eight-bytes, extended-bytes}
 use Rattle.words.proofs.Flags.{flag}
 use Rattle.words.proofs.Wraps.{signed-wrapped, wrapped-signed, signed-extended, extended-lt}
-use Rattle.words.proofs.Stores.{extended-bytes}
 use Rattle.sense.specs.declared.Sense.{Sense}
 use Rattle.sense.specs.Sense.{noSense, blankCheck, volumeOverflow, filemarkBit, eomBit, iliBit, flagBits, senseBytes, partsOf, reports, told}
 use Rattle.sense.specs.Descriptors.{informationType, streamType, informationDescriptor, streamDescriptor, descriptors, descriptorBytes, inForm}
 use Rattle.sense.specs.Reading.{Reading, isSet, descriptorOf, found, fixedReading, descriptorReading, readingOf}
 use Rattle.sense.specs.Turned.{turned}
+use Rattle.sense.proofs.Packing.{low4}
 use Rattle.sense.proofs.RoundTrip.{Spellable, parts-made}
 
 -- what is read of the parts of a sense
@@ -39,9 +39,6 @@ readingBy s = record {
   ascq = s .ascq;
   residue = cond (s .valid) (some (signed (2 ^ 31) (s .information))) none;
 }
-
-low4 : (n : ℕ) → bitAnd n 15 ≡ n % 16
-low4 n = and-mask n 4
 
 -- ---- the fixed form
 

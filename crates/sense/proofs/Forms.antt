@@ -1,7 +1,9 @@
 -- How long a sense is in descriptor form.
 -- Assumes nothing.
+use Prim.Native.Nat.{_≤_}
 use mathlib.Core.Path.{_≡_, refl}
 use mathlib.Core.Bool.{Bool, true, false, cond}
+use native.Mathlib.Omega.{arith}
 use lib.ListN.{length}
 use Rattle.words.specs.Words.{bytes}
 use Rattle.sense.specs.declared.Sense.{Sense}
@@ -15,3 +17,10 @@ form-length s = by (s .valid) refl
     by : (t : Bool) → s .valid ≡ t → length (descriptorBytes s) ≡ cond (s .valid) bothLength streamLength
     by true h = rw h refl
     by false h = rw h refl
+
+pub form-most : (s : Sense) → length (descriptorBytes s) ≤ bothLength
+form-most s = rw (form-length s) (by (s .valid))
+  where
+    by : (t : Bool) → cond t bothLength streamLength ≤ bothLength
+    by true = omega arith
+    by false = omega arith

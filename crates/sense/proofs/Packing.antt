@@ -25,7 +25,7 @@ pub with-valid : (v : Bool) → bitOr (boolByte v * 128 % 256) 0x70 ≡ cond v 0
 with-valid true = refl
 with-valid false = refl
 
-low4 : (n : ℕ) → bitAnd n 15 ≡ n % 16
+pub low4 : (n : ℕ) → bitAnd n 15 ≡ n % 16
 low4 n = and-mask n 4
 
 -- each flag is 0 or its bit
