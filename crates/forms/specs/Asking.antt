@@ -21,7 +21,7 @@ pub record Asks (rec : List ℕ) (x : Lent) : Type 0 where
   pub is : operationOf (codeOf (x .cmd)) ≡ RequestSense
   pub passes : first (commandTests rec x) ≡ none
 
--- "24 with an information descriptor or 12", else eighteen
+-- in descriptor form 24 bytes with an information descriptor and 12 without, else eighteen
 abbrev pub formLength : List ℕ → List ℕ → ℕ
 formLength rec cmd = cond (asksDescriptors cmd) (cond (partsOf (senseAsked (decodeOf rec)) .valid) bothLength streamLength) senseLength
 

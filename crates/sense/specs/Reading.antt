@@ -10,7 +10,7 @@ use lib.IntN.{ℤ}
 use lib.ListN.{length, getD, take, drop}
 use Rattle.words.specs.Words.{be}
 use Rattle.words.specs.Signed.{signed}
-use Rattle.sense.specs.Sense.{filemarkBit, eomBit, iliBit}
+use Rattle.sense.specs.Sense.{validBit, filemarkBit, eomBit, iliBit}
 use Rattle.sense.specs.Descriptors.{descriptorCode, informationType, streamType}
 
 -- the flags, the key, the codes, and the residue if one is told
@@ -47,7 +47,7 @@ fixedReading b = record {
   key = bitAnd (getD b 2 0) 0x0F;
   asc = getD b 12 0;
   ascq = getD b 13 0;
-  residue = cond (isSet 0x80 (getD b 0 0)) (some (signed (2 ^ 31) (be 4 b 3))) none;
+  residue = cond (isSet validBit (getD b 0 0)) (some (signed (2 ^ 31) (be 4 b 3))) none;
 }
 
 -- the descriptor form, in whatever order its descriptors stand: the stream's byte 3 has the flags, and the information's bytes 4–11, where
@@ -66,7 +66,7 @@ descriptorReading b =
       residue = cond (isSet 0x80 (getD information 2 0)) (some (signed (2 ^ 63) (be 8 information 4))) none;
     }
 
--- the low seven bits of byte 0 say which form it is
+-- the low seven bits of byte 0 say which form it is: 70h or 72h
 unfoldable pub readingOf : List ℕ → Option Reading
 readingOf b =
     let code = bitAnd (getD b 0 0) 0x7F in

@@ -81,6 +81,10 @@ mediumNotPresent = 0x3A
 
 -- ---- the bits and the fixed byte
 
+-- VALID, in byte 0
+abbrev pub validBit : ℕ
+validBit = 0x80
+
 abbrev pub filemarkBit : ℕ
 filemarkBit = 0x80
 
@@ -116,7 +120,7 @@ senseBytes s = (byte0 s ∷ 0 ∷ byte2 s ∷ []) ++ bytes 4 (s .information) ++
 
 unfoldable pub partsOf : List ℕ → Sense
 partsOf b = record {
-  valid = eqb (getD b 0 0 / 0x80) 1;
+  valid = eqb (getD b 0 0 / validBit) 1;
   filemark = eqb (getD b 2 0 / filemarkBit % 2) 1;
   eom = eqb (getD b 2 0 / eomBit % 2) 1;
   ili = eqb (getD b 2 0 / iliBit % 2) 1;
