@@ -66,19 +66,10 @@ enum {
     KEY_OVERFLOW = 0xd
 };
 
-/* The same in descriptor form, of 02: "response code 72h: key, ASC and ASCQ in bytes 1 to 3", "Byte 7 is the length
- * that follows"; behind it descriptors, each with its type first, and the length behind that second. */
-enum { DESC_FIRST = 0x72, DESC_KEY = 1, DESC_ASC = 2, DESC_ASCQ = 3, DESC_REST = 7, DESC_HEADER = 8 };
-
-/* "an information descriptor (type 00h, length 0Ah, 80h in its byte 2, value in 4-11, sign-extended) exactly when VALID
- * is set, and a stream descriptor (type 04h, length 02h, FILEMARK, EOM, ILI in byte 3) always". VALID is a bit of the
- * kept sense's first byte, whatever the others are. */
-enum { INFORMATION_TYPE = 0x00, INFORMATION_REST = 0x0a, INFORMATION_VALID = 0x80, INFORMATION_VALUE = 4 };
-enum { STREAM_TYPE = 0x04, STREAM_REST = 0x02, STREAM_FLAGS = 3 };
-enum { VALID_BIT = 0x80, ALL_FLAGS = STORMTOGGLE_FILEMARK | STORMTOGGLE_EOM | STORMTOGGLE_ILI };
-
-/* How long all of it is: with an information descriptor, and without one. */
-enum { DESC_WITH_VALUE = 24, DESC_WITHOUT = 12 };
+/* In descriptor form (02): "80h in its byte 2" of an information descriptor. VALID is a bit of the kept sense's first
+ * byte, whatever the others are, and FILEMARK, EOM and ILI are three of the stream descriptor's byte 3. */
+enum { INFORMATION_VALID = 0x80, VALID_BIT = 0x80 };
+enum { ALL_FLAGS = STORMTOGGLE_FILEMARK | STORMTOGGLE_EOM | STORMTOGGLE_ILI };
 
 /* "Key/ASC/ASCQ", with FILEMARK, EOM and ILI over the key as 01 gives them: bytes 2, 12 and 13 as one number. */
 #define TOLD(byte_2, asc, ascq) ((byte_2) << 16 | (asc) << 8 | (ascq))

@@ -36,8 +36,8 @@ static inline struct heard hear_fixed(const uint8_t *data)
  * nor than the bytes that came. NULL if there is none of the type. */
 static inline const uint8_t *find_descriptor(const uint8_t *data, size_t length, uint8_t type)
 {
-    size_t end = smaller(DESC_HEADER + (size_t)data[DESC_REST], length);
-    for (size_t at = DESC_HEADER; at + 1 < end; at += 2 + (size_t)data[at + 1])
+    size_t end = smaller(STORMTOGGLE_DESCRIPTORS_START + (size_t)data[STORMTOGGLE_DESCRIPTORS_REST], length);
+    for (size_t at = STORMTOGGLE_DESCRIPTORS_START; at + 1 < end; at += 2 + (size_t)data[at + 1])
         if (data[at] == type)
             return data + at;
     return NULL;
@@ -46,15 +46,16 @@ static inline const uint8_t *find_descriptor(const uint8_t *data, size_t length,
 /* The slips are those of a host that reads a value without its sign, and flags in the wrong byte. */
 static inline struct heard hear_descriptors(const uint8_t *data, size_t length)
 {
-    const uint8_t *information = find_descriptor(data, length, INFORMATION_TYPE);
-    const uint8_t *stream = find_descriptor(data, length, STREAM_TYPE);
-    struct heard heard = hear_flags(stream == NULL ? 0 : stream[FAULT == 185 ? STREAM_FLAGS - 1 : STREAM_FLAGS]);
-    heard.key = data[DESC_KEY];
-    heard.asc = data[DESC_ASC];
-    heard.ascq = data[DESC_ASCQ];
+    const uint8_t *information = find_descriptor(data, length, STORMTOGGLE_INFORMATION_TYPE);
+    const uint8_t *stream = find_descriptor(data, length, STORMTOGGLE_STREAM_TYPE);
+    size_t at = FAULT == 185 ? STORMTOGGLE_STREAM_FLAGS - 1 : STORMTOGGLE_STREAM_FLAGS;
+    struct heard heard = hear_flags(stream == NULL ? 0 : stream[at]);
+    heard.key = data[STORMTOGGLE_DESCRIPTORS_KEY];
+    heard.asc = data[STORMTOGGLE_DESCRIPTORS_ASC];
+    heard.ascq = data[STORMTOGGLE_DESCRIPTORS_ASCQ];
     heard.has_residue = information != NULL && information[2] >> 7;
     if (heard.has_residue)
-        heard.residue = (int64_t)get64(information + INFORMATION_VALUE);
+        heard.residue = (int64_t)get64(information + STORMTOGGLE_INFORMATION_VALUE);
     if (FAULT == 184)
         heard.residue &= UINT32_MAX;
     return heard;
@@ -92,12 +93,15 @@ static inline const char *heard_otherwise(void)
 {
     uint8_t fixed[HEARD_ROOM], described[HEARD_ROOM];
     uint64_t in_18 = ask_copy(fixed, 0), in_descriptors = ask_copy(described, DESC);
+    unsigned rest;
     struct heard one, other;
     if (in_18 != SENSE_BYTES || (fixed[STORMTOGGLE_SENSE_FIRST] & ~VALID_BIT) != STORMTOGGLE_NOT_VALID)
         return "no eighteen bytes of response code 70h";
-    if (in_descriptors != (FAULT == 186 ? 0u : DESC_HEADER) + described[DESC_REST] || in_descriptors > HEARD_ROOM)
+    rest = (FAULT == 186 ? 0u : STORMTOGGLE_DESCRIPTORS_START) + described[STORMTOGGLE_DESCRIPTORS_REST];
+    if (in_descriptors != rest || in_descriptors > HEARD_ROOM)
         return "byte 7 and 8 are not the bytes carried";
-    if (described[0] != DESC_FIRST || find_descriptor(described, (size_t)in_descriptors, STREAM_TYPE) == NULL)
+    if (described[0] != STORMTOGGLE_IN_DESCRIPTORS ||
+        find_descriptor(described, (size_t)in_descriptors, STORMTOGGLE_STREAM_TYPE) == NULL)
         return "no response code 72h with a stream descriptor";
     one = hear_fixed(fixed);
     other = hear_descriptors(described, (size_t)in_descriptors);

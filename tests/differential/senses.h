@@ -123,7 +123,7 @@ static inline uint64_t whole_reply(enum form form, enum answering answering)
 {
     if (form == FIXED_FORM)
         return SENSE_BYTES;
-    return answering == WITH_VALUE ? DESC_WITH_VALUE : DESC_WITHOUT;
+    return answering == WITH_VALUE ? STORMTOGGLE_DESCRIPTORS_BOTH : STORMTOGGLE_DESCRIPTORS_STREAM;
 }
 
 static inline void count_stranger(unsigned long *strangers, const uint8_t *sense)

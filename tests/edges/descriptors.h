@@ -64,7 +64,8 @@ static void hold_asking(const char *kept, const struct drive *before, uint8_t by
                         const struct bytes *whole)
 {
     size_t need = allocation < whole->length ? allocation : whole->length, count = 0;
-    size_t rooms[] = {need - 1, need, need + 1, need + DESC_WITH_VALUE - DESC_WITHOUT, 255};
+    size_t an_information = STORMTOGGLE_DESCRIPTORS_BOTH - STORMTOGGLE_DESCRIPTORS_STREAM;
+    size_t rooms[] = {need - 1, need, need + 1, need + an_information, 255};
     struct call calls[COUNT(rooms)];
     for (size_t i = need == 0; i < COUNT(rooms); i++) {
         char what[100];

@@ -36,7 +36,7 @@ use Rattle.exact.proofs.Tells.{Parts, Which, odd-length, at-filemark, early-war
 use Rattle.exact.proofs.Senses.{Known, attention-waits, code-not-served, field-wrong, list-length-wrong, nothing-loaded, no-such-partition, write-protected, told-act, waits}
 use Rattle.exact.proofs.Residues.{reported, always-fits, valid-exactly}
 use Rattle.forms.specs.Produced.{Left, by-fresh, by-mount, by-command, Produced, kept, asked, kinds, isOfOne}
-use Rattle.forms.proofs.Produced.{LeftBy, tested, acted, good, left-by, fresh-keeps, mount-keeps, Telling, produced-telling}
+use Rattle.forms.proofs.Produced.{LeftBy, tested, acted, good, left-by, fresh-keeps, mount-keeps, toldOf, Telling, spelt, produced-telling}
 
 abbrev isKnown : Sense → Bool
 isKnown s = isOfOne kinds s
@@ -182,9 +182,7 @@ pub produced-kind : (b : List ℕ) → Produced b → (isOfOne kinds (partsOf b)
 produced-kind b p = (kind-is p, whole (produced-telling b p))
   where
     whole : Telling b → b ≡ senseBytes (partsOf b)
-    whole t =
-        let s = told (t .counting) (t .filemark) (t .eom) (t .ili) (t .key) (t .asc) (t .ascq) (t .residue) in
-        t .is ∙ ap senseBytes (sym (ap partsOf (t .is) ∙ parts-made s (told-held (t .counting) (t .filemark) (t .eom) (t .ili) (t .key) (t .asc) (t .ascq) (t .residue) (t .key-small))))
+    whole t = t .is ∙ ap senseBytes (sym (ap partsOf (t .is) ∙ parts-made (toldOf (t .counting) (t .parts) (t .residue)) (spelt t)))
 
     kind-is : Produced b → isKnown (partsOf b) ≡ true
     kind-is (kept rec l e) = ap (λ (a : List ℕ). isKnown (partsOf a)) e ∙ kept-known rec l

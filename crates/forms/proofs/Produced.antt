@@ -31,26 +31,28 @@ use Rattle.history.proofs.ReadBack.{told-held}
 use Rattle.history.proofs.Ended.{Finished, by-number, by-sense, by-act, ended}
 use Rattle.exact.specs.Residues.{counts, residueOf}
 use Rattle.exact.specs.Senses.{senseAfter}
-use Rattle.exact.proofs.Tells.{Told, ToldBy, act-tells}
+use Rattle.exact.proofs.Tells.{Parts, Told, ToldBy, act-tells}
 use Rattle.exact.proofs.Senses.{sense-back, ByTest, Known, attention-waits, code-not-served, field-wrong, list-length-wrong, nothing-loaded, no-such-partition, write-protected, after-act, heard, told-act, told-test}
 use Rattle.exact.proofs.Residues.{Reported, reported}
 use Rattle.forms.specs.Produced.{Left, by-fresh, by-mount, by-command, Produced, kept, asked}
 
--- bytes that tell key, codes, flags and a residue, which is reported or not
+-- a sense told with the parts p, and a residue that is reported or not; and what is read of it
+abbrev pub toldOf : Bool → Parts → ℤ → Sense
+toldOf counts p z = told counts (p .0) (p .1) (p .2) (p .3) (p .4) (p .5) z
+
+abbrev pub readingOfTold : Bool → Parts → ℤ → Reading
+readingOfTold counts p z = readingTold counts (p .0) (p .1) (p .2) (p .3) (p .4) (p .5) z
+
+-- bytes that tell it
 pub record Telling (b : List ℕ) : Type 0 where
   pub counting : Bool
-  pub filemark : Bool
-  pub eom : Bool
-  pub ili : Bool
-  pub key : ℕ
-  pub asc : ℕ
-  pub ascq : ℕ
+  pub parts : Parts
   pub residue : ℤ
-  pub key-small : key < 16
-  pub is : b ≡ senseBytes (told counting filemark eom ili key asc ascq residue)
+  pub key-small : parts .3 < 16
+  pub is : b ≡ senseBytes (toldOf counting parts residue)
 
 plain-telling : (b : List ℕ) (key asc ascq : ℕ) → key < 16 → b ≡ senseBytes (plainly key asc ascq) → Telling b
-plain-telling b key asc ascq h e = record { counting = false; filemark = false; eom = false; ili = false; key = key; asc = asc; ascq = ascq; residue = pos 0; key-small = h; is = e }
+plain-telling b key asc ascq h e = record { counting = false; parts = (false, false, false, key, asc, ascq); residue = pos 0; key-small = h; is = e }
 
 empty-telling : (b : List ℕ) → b ≡ emptySense → Telling b
 unfolding emptySense
@@ -102,7 +104,7 @@ module _ (rec : List ℕ) (x : Lent) where
     where
       go : LeftBy → Telling b
       go (tested t) = plain-telling b (t .key) (t .asc) unqualified (key-known (t .place) (t .key) (t .asc) (t .known)) (e ∙ t .kept)
-      go (acted f c s u k) = record { counting = counts o; filemark = u .filemark; eom = u .eom; ili = u .ili; key = u .key; asc = u .asc; ascq = u .ascq; residue = u .residue; key-small = u .key-small; is = e ∙ k ∙ ap senseBytes (u .is) }
+      go (acted f c s u k) = record { counting = counts o; parts = (u .filemark, u .eom, u .ili, u .key, u .asc, u .ascq); residue = u .residue; key-small = u .key-small; is = e ∙ k ∙ ap senseBytes (u .is) }
       go (good k) = empty-telling b (e ∙ k)
 
 -- ---- what any service leaves
@@ -134,12 +136,15 @@ pub record ReadAlike (b : List ℕ) (r : Reading) : Type 0 where
   pub fixed : readingOf b ≡ some r
   pub descriptors : readingOf (inForm true b) ≡ some r
 
+pub spelt : {b : List ℕ} (t : Telling b) → Spellable (toldOf (t .counting) (t .parts) (t .residue))
+spelt t = told-held (t .counting) (t .parts .0) (t .parts .1) (t .parts .2) (t .parts .3) (t .parts .4) (t .parts .5) (t .residue) (t .key-small)
+
 -- a sense that is told is read as it was told, with its residue where one is reported
-pub read-as-told : (b : List ℕ) (t : Telling b) → ReadAlike b (readingTold (t .counting) (t .filemark) (t .eom) (t .ili) (t .key) (t .asc) (t .ascq) (t .residue))
+pub read-as-told : (b : List ℕ) (t : Telling b) → ReadAlike b (readingOfTold (t .counting) (t .parts) (t .residue))
 read-as-told b t =
-    let s = told (t .counting) (t .filemark) (t .eom) (t .ili) (t .key) (t .asc) (t .ascq) (t .residue) in
-    let r = both-read s (told-held (t .counting) (t .filemark) (t .eom) (t .ili) (t .key) (t .asc) (t .ascq) (t .residue) (t .key-small)) in
-    let e = ap (λ (y : Reading). some y) (told-read (t .counting) (t .filemark) (t .eom) (t .ili) (t .key) (t .asc) (t .ascq) (t .residue) (t .key-small)) in
+    let p = t .parts in
+    let r = both-read (toldOf (t .counting) p (t .residue)) (spelt t) in
+    let e = ap (λ (y : Reading). some y) (told-read (t .counting) (p .0) (p .1) (p .2) (p .3) (p .4) (p .5) (t .residue) (t .key-small)) in
     record { fixed = ap readingOf (t .is) ∙ r .0 ∙ e; descriptors = ap (λ (a : List ℕ). readingOf (inForm true a)) (t .is) ∙ r .1 ∙ e }
 
 pub record Agree (b : List ℕ) : Type 0 where

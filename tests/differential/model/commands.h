@@ -203,7 +203,7 @@ static inline void slip_in_clearing(struct session *s, uint8_t attention)
     if ((s->block[1] & DESC) == 0)
         return;
     if (FAULT == 160)
-        s->sense[STORMTOGGLE_SENSE_FIRST] = DESC_FIRST;
+        s->sense[STORMTOGGLE_SENSE_FIRST] = STORMTOGGLE_IN_DESCRIPTORS;
     if (FAULT == 161 || (FAULT == 176 && asks_for_none))
         memcpy(s->sense, s->kept, SENSE_BYTES);
     if (FAULT == 162 || (FAULT == 176 && asks_for_none))

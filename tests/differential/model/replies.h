@@ -61,8 +61,8 @@ static inline void append(struct reply *reply, uint64_t number, unsigned bytes)
 
 static inline void append_information(struct reply *reply, int64_t value)
 {
-    append(reply, INFORMATION_TYPE, 1);
-    append(reply, INFORMATION_REST + (FAULT == 170 ? 2 : 0), 1);
+    append(reply, STORMTOGGLE_INFORMATION_TYPE, 1);
+    append(reply, STORMTOGGLE_INFORMATION_REST + (FAULT == 170 ? 2 : 0), 1);
     append(reply, FAULT == 172 ? 0 : INFORMATION_VALID, 1);
     append(reply, 0, 1);
     append(reply, FAULT == 171 ? (uint64_t)value << 32 : (uint64_t)value, 8);
@@ -72,15 +72,16 @@ static inline void append_stream(struct reply *reply, uint8_t flags)
 {
     if (FAULT == 158 && flags == 0)
         return;
-    append(reply, STREAM_TYPE, 1);
-    append(reply, STREAM_REST, 1);
+    append(reply, STORMTOGGLE_STREAM_TYPE, 1);
+    append(reply, STORMTOGGLE_STREAM_REST, 1);
     append(reply, FAULT == 173 ? (uint64_t)flags << 8 : flags, 2);
 }
 
 static inline struct reply in_descriptors(const struct said *said)
 {
     struct reply reply = {.length = 0};
-    append(&reply, DESC_FIRST | (FAULT == 174 && said->is_valid ? VALID_BIT : 0), 1);
+    unsigned rest;
+    append(&reply, STORMTOGGLE_IN_DESCRIPTORS | (FAULT == 174 && said->is_valid ? VALID_BIT : 0), 1);
     append(&reply, said->key, 1);
     append(&reply, said->asc, 1);
     append(&reply, said->ascq, 1);
@@ -92,7 +93,8 @@ static inline struct reply in_descriptors(const struct said *said)
     if (FAULT != 153)
         append_stream(&reply, said->flags);
     /* "Byte 7 is the length that follows", which is known only now. */
-    reply.bytes[DESC_REST] = (uint8_t)(reply.length - DESC_HEADER + (FAULT == 152));
+    rest = reply.length - STORMTOGGLE_DESCRIPTORS_START + (FAULT == 152);
+    reply.bytes[STORMTOGGLE_DESCRIPTORS_REST] = (uint8_t)rest;
     if (FAULT == 164 && reply.length > SENSE_BYTES)
         reply.length = SENSE_BYTES;
     return reply;
@@ -155,8 +157,8 @@ static inline struct reply sense_reply(const struct session *s)
     said = said_by(sense);
     slip_in_what_is_said(&said, s);
     reply = in_descriptors(&said);
-    if (FAULT == 169 && allocation >= DESC_HEADER && allocation < reply.length)
-        reply.bytes[DESC_REST] = (uint8_t)(allocation - DESC_HEADER);
+    if (FAULT == 169 && allocation >= STORMTOGGLE_DESCRIPTORS_START && allocation < reply.length)
+        reply.bytes[STORMTOGGLE_DESCRIPTORS_REST] = (uint8_t)(allocation - STORMTOGGLE_DESCRIPTORS_START);
     return reply;
 }
 
@@ -187,7 +189,7 @@ static inline uint64_t room_needed(const struct session *s)
     if (FAULT == 156 && has_bit)
         most = SENSE_BYTES;
     if ((FAULT == 168 && has_bit) || (FAULT == 180 && !has_bit))
-        most = DESC_WITH_VALUE;
+        most = STORMTOGGLE_DESCRIPTORS_BOTH;
     most = s->block[0] == REQUEST_SENSE ? smaller(s->block[AT_ALLOCATION], most) : 0;
     return need > most ? need : most;
 }
