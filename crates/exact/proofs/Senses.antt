@@ -129,6 +129,7 @@ module _ (rec : List ℕ) (x : Lent) where
     pub place : ℕ
     pub key : ℕ
     pub asc : ℕ
+    pub key-small : key < 16
     pub there : FirstAt T place
     pub known : Known place key asc
     pub kept : decodeOf (R .rec) .sense ≡ senseBytes (plainly key asc unqualified)
@@ -136,7 +137,7 @@ module _ (rec : List ℕ) (x : Lent) where
     pub silent : (z : ℤ) → reports true key z ≡ false
 
   by-plain : (j k a : ℕ) → FirstAt T j → Known j k a → k < 16 → ((z : ℤ) → reports true k z ≡ false) → Plain k a unqualified → ByTest
-  by-plain j k a f n h s p = record { place = j; key = k; asc = a; there = f; known = n; kept = p .bytes-are; is = parts-are k a unqualified h p; silent = s }
+  by-plain j k a f n h s p = record { place = j; key = k; asc = a; key-small = h; there = f; known = n; kept = p .bytes-are; is = parts-are k a unqualified h p; silent = s }
 
   by-fault : (j k a : ℕ) → FirstAt T j → Known j k a → k < 16 → ((z : ℤ) → reports true k z ≡ false) → first T ≡ some (fault k a unqualified) → ByTest
   by-fault j k a f n h s e = by-plain j k a f n h s (after-fault k a unqualified e)

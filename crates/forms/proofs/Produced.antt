@@ -32,7 +32,7 @@ use Rattle.history.proofs.Ended.{Finished, by-number, by-sense, by-act, ended}
 use Rattle.exact.specs.Residues.{counts, residueOf}
 use Rattle.exact.specs.Senses.{senseAfter}
 use Rattle.exact.proofs.Tells.{Parts, Told, ToldBy, act-tells}
-use Rattle.exact.proofs.Senses.{sense-back, ByTest, Known, attention-waits, code-not-served, field-wrong, list-length-wrong, nothing-loaded, no-such-partition, write-protected, after-act, heard, told-act, told-test}
+use Rattle.exact.proofs.Senses.{sense-back, ByTest, after-act, heard, told-act, told-test}
 use Rattle.exact.proofs.Residues.{Reported, reported}
 use Rattle.forms.specs.Produced.{Left, by-fresh, by-mount, by-command, Produced, kept, asked}
 
@@ -90,20 +90,11 @@ module _ (rec : List ℕ) (x : Lent) where
           by none u s k = good k
           by (some y) u s k = acted f s y u k
 
-  key-known : (j k a : ℕ) → Known rec x j k a → k < 16
-  key-known j k a (attention-waits p e q) = subst (λ (n : ℕ). n < 16) e (omega arith)
-  key-known j k a (code-not-served p e q) = subst (λ (n : ℕ). n < 16) e (omega arith)
-  key-known j k a (field-wrong p e q) = subst (λ (n : ℕ). n < 16) e (omega arith)
-  key-known j k a (list-length-wrong p e q) = subst (λ (n : ℕ). n < 16) e (omega arith)
-  key-known j k a (nothing-loaded p e q) = subst (λ (n : ℕ). n < 16) e (omega arith)
-  key-known j k a (no-such-partition p e q) = subst (λ (n : ℕ). n < 16) e (omega arith)
-  key-known j k a (write-protected p e q) = subst (λ (n : ℕ). n < 16) e (omega arith)
-
   command-telling : (b : List ℕ) → R .answer .refusal ≡ 0 → b ≡ decodeOf (R .rec) .sense → Telling b
   command-telling b h e = go (left-by h)
     where
       go : LeftBy → Telling b
-      go (tested t) = plain-telling b (t .key) (t .asc) unqualified (key-known (t .place) (t .key) (t .asc) (t .known)) (e ∙ t .kept)
+      go (tested t) = plain-telling b (t .key) (t .asc) unqualified (t .key-small) (e ∙ t .kept)
       go (acted f c s u k) = record { counting = counts o; parts = (u .filemark, u .eom, u .ili, u .key, u .asc, u .ascq); residue = u .residue; key-small = u .key-small; is = e ∙ k ∙ ap senseBytes (u .is) }
       go (good k) = empty-telling b (e ∙ k)
 
