@@ -21,7 +21,7 @@ use Rattle.changes.proofs.Alike.{Matching, slice-agree, alike-end, alik
 use Rattle.image.proofs.Objects.{upto-cong, take-objects}
 use Rattle.changes.proofs.Retitled.{retitle-length, retitle-front, retitle-flags, retitle-size, retitle-count, retitle-dir}
 
--- an object that an image may hold: a filemark, or a block of 1 to 65,536 bytes
+-- an object that an image may hold: a filemark, or a block of 1 to 1,048,576 bytes
 abbrev pub Holdable : Object → Type 0
 Holdable filemark = Unit {0}
 Holdable (block bs) = (0 < length bs) × (length bs ≤ largestBlock)

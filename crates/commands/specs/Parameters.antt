@@ -37,7 +37,7 @@ allPages = 0x3F
 
 -- ---- their bytes
 
--- READ BLOCK LIMITS: 00 01 00 00 00 01: the largest block in three bytes, the least, 1, in two
+-- READ BLOCK LIMITS: Q-7: "00 10 00 00 00 01", for 01's "00 01 00 00 00 01": the largest block in three bytes, the least, 1, in two
 unfoldable pub blockLimits : List ℕ
 blockLimits = (0x00 ∷ []) ++ bytes 3 largestBlock ++ bytes 2 1
 
@@ -51,7 +51,8 @@ modeData dbd protected blockLength =
 unfoldable pub listLengthKnown : ℕ → Bool
 listLengthKnown n = eqb n 0 || eqb n headerLength || eqb n wholeLength
 
--- "Byte 0 ignored, 1 and 2 zero, 3 is 0 or 8 as the length says; descriptor bytes 0–3 zero, 4 ignored, block length at most 65,536"
+-- "Byte 0 ignored, 1 and 2 zero, 3 is 0 or 8 as the length says; descriptor bytes 0–3 zero, 4 ignored, block length at most 65,536",
+-- since Q-7 1,048,576
 unfoldable pub headerRight : ℕ → List ℕ → Bool
 headerRight n s = eqb (getD s 1 0) 0 && eqb (getD s 2 0) 0 && eqb (getD s 3 0) (cond (eqb n wholeLength) 8 0)
 

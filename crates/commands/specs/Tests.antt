@@ -29,7 +29,7 @@ unfoldable pub fieldError : Operation → Drive → List ℕ → Bool
 fieldError o d cmd =
     -- "Both, or FIXED with block length 0"
     cond (among (Read ∷ []) o) (fixedOf cmd && (siliOf cmd || eqb (d .«block_length») 0))
-    -- "FIXED .. as READ; variable length above 65,536"
+    -- "FIXED .. as READ; variable length above 65,536", since Q-7 1,048,576
     (cond (among (Write ∷ []) o) (cond (fixedOf cmd) (eqb (d .«block_length») 0) (ltb largestBlock (transferOf cmd)))
     -- "Other codes than 0, 1, 3"
     (cond (among (Space ∷ Space16 ∷ []) o) (not (eqb (spaceCodeOf cmd) overBlocks || eqb (spaceCodeOf cmd) overFilemarks || eqb (spaceCodeOf cmd) toEnd))

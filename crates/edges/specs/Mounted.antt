@@ -56,14 +56,14 @@ mountings =
     mountsOne (bare 0 0 nothingKept) ∷
     mountsOne (bare 0 512 (plain 5 0x24 0)) ∷
     mountsOne (bare 0 32768 (replicate 18 0xFF)) ∷
-    mountsOne (bare 0 65536 nothingKept) ∷
+    mountsOne (bare 0 1048576 nothingKept) ∷
     mountsTwo (bare 0x29 0 nothingKept) ∷
     mountsTwo (bare 0 1 nothingKept) ∷
     -- refused by 4, 5, 7 and 6
-    mountRefused 4 (bare 0 65537 nothingKept) E [] ∷
+    mountRefused 4 (bare 0 1048577 nothingKept) E [] ∷
     mountRefused 5 (loaded 0 1 512 nothingKept) E [] ∷
     mountRefused 7 (bare 0 512 nothingKept) [] [] ∷
-    mountRefused 6 (bare 0 65536 nothingKept) (three 0x00000003 0x80000003 0x00000002) E ∷
+    mountRefused 6 (bare 0 1048576 nothingKept) (three 0x00000003 0x80000003 0x00000002) E ∷
     []
 
 -- "Fresh: all 0, attention 29h": so the block length, which Q-3 leaves alone

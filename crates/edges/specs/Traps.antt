@@ -102,11 +102,11 @@ traps =
     turns (bare 0 0 nothingKept) (six 0x08 0 1) [] (check 0) (bare 0 0 (plain 2 0x3A 0)) ∷
     -- protection at any count, after the fields
     turns (loaded 0 0 0 nothingKept) (six 0x0A 0 0) guarded (check 0) (loaded 0 0 0 (plain 7 0x27 0)) ∷
-    turns (loaded 0 0 0 nothingKept) (six 0x0A 0 65537) guarded (check 0) (loaded 0 0 0 (plain 5 0x24 0)) ∷
+    turns (loaded 0 0 0 nothingKept) (six 0x0A 0 1048577) guarded (check 0) (loaded 0 0 0 (plain 5 0x24 0)) ∷
     -- MODE SELECT: the list length before number 2; a block length that is no multiple of four
     turns (bare 0 0 nothingKept) (six 0x15 0x10 8) [] (check 0) (bare 0 0 (plain 5 0x1A 0)) ∷
     alone (bare 0 0 nothingKept) (six 0x15 0x10 12) [] (9 ∷ 0 ∷ 0 ∷ 8 ∷ 0 ∷ 0 ∷ 0 ∷ 0 ∷ 9 ∷ 0 ∷ 0 ∷ 3 ∷ []) [] (goodAnswer 12) (bare 0 3 nothingKept) [] [] ∷
-    alone (bare 0 7 nothingKept) (six 0x15 0x10 12) [] (0 ∷ 0 ∷ 0 ∷ 8 ∷ 0 ∷ 0 ∷ 0 ∷ 0 ∷ 0 ∷ 1 ∷ 0 ∷ 1 ∷ []) [] (check 0) (bare 0 7 (plain 5 0x26 0)) [] [] ∷
+    alone (bare 0 7 nothingKept) (six 0x15 0x10 12) [] (0 ∷ 0 ∷ 0 ∷ 8 ∷ 0 ∷ 0 ∷ 0 ∷ 0 ∷ 0 ∷ 0x10 ∷ 0 ∷ 1 ∷ []) [] (check 0) (bare 0 7 (plain 5 0x26 0)) [] [] ∷
     -- LOCATE: a partition that is not there moves nothing; without CP the byte is ignored
     turns (loaded 0 1 0 nothingKept) (0x2B ∷ 2 ∷ 0 ∷ 0 ∷ 0 ∷ 0 ∷ 0 ∷ 0 ∷ 1 ∷ 0 ∷ []) E (check 0) (loaded 0 1 0 (plain 5 0x24 0)) ∷
     turns (loaded 0 1 0 nothingKept) (0x2B ∷ 0 ∷ 0 ∷ 0 ∷ 0 ∷ 0 ∷ 0 ∷ 0 ∷ 0xFF ∷ 0 ∷ []) E (goodAnswer 0) (loaded 0 0 0 nothingKept) ∷
@@ -155,7 +155,7 @@ traps =
     alone (loaded 0 0 0 nothingKept) (six 0x19 1 0) E [] [] (goodAnswer 0) (loaded 0 0 0 nothingKept) (zeros 48 ++ bytes 4 0 ++ bytes 4 0 ++ bytes 4 48 ++ bytes 4 64) [] ∷
     -- READ POSITION, long: one filemark before 2; READ BLOCK LIMITS needs no cartridge
     alone (loaded 0 2 0 nothingKept) (six 0x34 6 0 ++ zeros 4) E [] (zeros 32) (goodAnswer 32) (loaded 0 2 0 nothingKept) E (zeros 15 ++ (2 ∷ []) ++ zeros 7 ++ (1 ∷ []) ++ zeros 8) ∷
-    alone (bare 0 0 nothingKept) (six 0x05 0 0) [] [] (zeros 6) (goodAnswer 6) (bare 0 0 nothingKept) [] (0 ∷ 1 ∷ 0 ∷ 0 ∷ 0 ∷ 1 ∷ []) ∷
+    alone (bare 0 0 nothingKept) (six 0x05 0 0) [] [] (zeros 6) (goodAnswer 6) (bare 0 0 nothingKept) [] (0 ∷ 0x10 ∷ 0 ∷ 0 ∷ 0 ∷ 1 ∷ []) ∷
     -- unload: partitions, current and position are 0, the block length stays
     turns (loaded 0 2 9 nothingKept) (six 0x1B 0 0) E (goodAnswer 0) (bare 0 9 nothingKept) ∷
     []

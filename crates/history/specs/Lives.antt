@@ -5,10 +5,8 @@ use Prim.Native.Nat.{ℕ}
 use mathlib.Core.Path.{_≡_}
 use mathlib.Core.Bool.{true, false}
 use mathlib.Core.List.{List, [], _∷_, _++_}
-use native.Mathlib.Omega.{arith}
-use lib.ListN.{length-replicate}
 use Rattle.words.specs.Words.{bytes, zeros}
-use Rattle.objects.specs.Object.{Object, filemark, block, largestBlock}
+use Rattle.objects.specs.Object.{Object, filemark, block}
 use Rattle.objects.specs.Events.{Event, put, cut}
 use Rattle.image.specs.Image.{objects}
 use Rattle.trailers.specs.Least.{blank64}
@@ -121,12 +119,6 @@ ofSecond = record {
   left = block (5 ∷ 6 ∷ []) ∷ [];
 }
 
--- ---- the reads at the end
-
--- each lent a buffer of 65,536 zeros
-abbrev pub readWith : Reading
-readWith = record { sili = false; sent = []; received = zeros largestBlock; room = omega (arith, length-replicate {A = ℕ} largestBlock 0) }
-
 -- ---- calls that lose nothing: an unload, a mount under another record, protection, a WRITE at a position that is not there
 
 abbrev pub quietCalls : List Call
@@ -145,10 +137,11 @@ pub record Computed : Type 0 where
   pub one-begins : AtBeginning slot0 (oneDrive .under)
   pub mounted : Mounted (severalDrives .under) (ends (severalDrives .calls) (severalDrives .made))
   pub begins : AtBeginning slot1 (severalDrives .under)
-  -- and what its reads meet
-  pub one-read : readings (readWith ∷ readWith ∷ readWith ∷ readWith ∷ []) (oneDrive .under) (ends (oneDrive .calls) (oneDrive .made))
+  -- a read can be lent what demand 3 asks for; and what reads meet, whatever is lent to them
+  pub lends : Reading
+  pub one-read : (a b c d : Reading) → readings (a ∷ b ∷ c ∷ d ∷ []) (oneDrive .under) (ends (oneDrive .calls) (oneDrive .made))
       ≡ object (block (1 ∷ 2 ∷ 3 ∷ [])) ∷ object (block (4 ∷ 5 ∷ [])) ∷ object filemark ∷ endOfData ∷ []
-  pub read : readings (readWith ∷ readWith ∷ []) (severalDrives .under) (ends (severalDrives .calls) (severalDrives .made)) ≡ object (block (5 ∷ 6 ∷ [])) ∷ endOfData ∷ []
+  pub read : (a b : Reading) → readings (a ∷ b ∷ []) (severalDrives .under) (ends (severalDrives .calls) (severalDrives .made)) ≡ object (block (5 ∷ 6 ∷ [])) ∷ endOfData ∷ []
   -- the premises of the facility's sentences, too: tile 1 of a FIXED WRITE, the second of two filemarks, calls that lose nothing
   pub tile-put : TilePut slot0 (oneDrive .made) together (mountedAt 1 0 0 0 2) (six 0x0A 1 2) (4 ∷ 5 ∷ 6 ∷ 7 ∷ []) [] 1
   pub mark-put : MarkPut slot0 (oneDrive .made) together (mountedAt 1 0 0 0 0) (six 0x10 0 2) [] [] 1

@@ -78,7 +78,7 @@ pub follows-le : (p e : ℕ) → follows p e ≡ true → p ≤ low31 e
 unfolding follows
 follows-le p e h = chosen-le (topBit e) p (low31 e) h
 
--- what an entry promises of its block: 1 to 65,536 bytes
+-- what an entry promises of its block: 1 to 1,048,576 bytes
 chosen-size : (p t : ℕ) → ltb p t && leb t (p + largestBlock) ≡ true → (p < t) × (t ≤ p + largestBlock)
 chosen-size p t h = let b = both _ _ h in (ltb-true p t (b .0), leb-true t (p + largestBlock) (b .1))
 

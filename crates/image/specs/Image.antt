@@ -75,7 +75,7 @@ unfoldable pub endAt : List ℕ → ℕ → ℕ
 endAt s zero = 0
 endAt s (suc i) = low31 (entry s i)
 
--- after the end p the entry e is right: a block's end exceeds p by 1 to 65,536, a filemark's equals it
+-- after the end p the entry e is right: a block's end exceeds p by 1 to the largest block (Q-7; 01 had "1 to 65,536"), a filemark's equals it
 unfoldable pub follows : ℕ → ℕ → Bool
 follows p e = cond (topBit e) (eqb (low31 e) p) (ltb p (low31 e) && leb (low31 e) (p + largestBlock))
 

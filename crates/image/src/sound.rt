@@ -27,7 +27,7 @@ const MOST_LENGTH: usize = 1_073_741_824;
 const FLAG_BITS: u32 = 1;
 
 // Whether the entry e is right after the end p, by one comparison and no branch: a filemark adds nothing to the end, a
-// block one byte and up to 65,535 more. An end that is too low wraps to more than that.
+// block one byte and up to 1,048,575 more. An end that is too low wraps to more than that.
 fn entry_follows(p: u32, e: u32) -> bool
     requires { ⌜ p < 2 ^ 31 ⌝ }
     ensures { λ r. ⌜ r ≡ follows p e ⌝ }

@@ -5,9 +5,10 @@ use mathlib.Core.Bool.{Bool, true, false}
 use mathlib.Core.List.{List, [], _∷_}
 use lib.ListN.{length}
 
--- a block has 1 to 65,536 bytes
+-- a block has 1 to so many bytes. Q-7: "Raise the largest block from 65,536 to 1,048,576 bytes"; 01 had 65,536 for an image, the record, MODE SELECT
+-- and variable WRITE, and 00 01 00 00 00 01 for READ BLOCK LIMITS: all cite this
 abbrev pub largestBlock : ℕ
-largestBlock = 65536
+largestBlock = 1048576
 
 pub data Object : Type 0 where
   filemark : Object

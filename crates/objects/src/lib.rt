@@ -2,4 +2,4 @@
 // (proofs/). The crates above prove their code against these.
 
 // The largest block.
-pub const LARGEST_BLOCK: u32 = 65_536;
+pub const LARGEST_BLOCK: u32 = 1_048_576;

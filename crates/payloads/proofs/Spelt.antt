@@ -11,9 +11,10 @@ use mir.Val.{boolByte}
 use Rattle.words.specs.Words.{bytes}
 use Rattle.words.proofs.Laws.{bytes-split}
 use Rattle.words.proofs.Stores.{low8, three-bytes, four-bytes}
+use Rattle.objects.specs.Object.{largestBlock}
 use Rattle.commands.specs.Parameters.{blockLimits, modeData, positionFlags, shortPosition, longPosition}
 
-pub limits : 0 ∷ bitAnd (65536 / 65536) 255 ∷ bitAnd (65536 / 256) 255 ∷ bitAnd 65536 255 ∷ 0 ∷ 1 ∷ [] ≡ blockLimits
+pub limits : 0 ∷ bitAnd (largestBlock / 65536) 255 ∷ bitAnd (largestBlock / 256) 255 ∷ bitAnd largestBlock 255 ∷ 0 ∷ 1 ∷ [] ≡ blockLimits
 unfolding blockLimits bytes
 limits = refl
 

@@ -82,7 +82,7 @@ emptyHanded d = eqb (d .partitions) 0 && eqb (d .current) 0 && eqb (d .position)
 unfoldable pub placed : Drive → Bool
 placed d = leb 1 (d .partitions) && leb (d .partitions) 2 && ltb (d .current) (d .partitions)
 
--- "loaded 0/1"; "Block length at most 65,536"; "Any kept sense is well formed."
+-- "loaded 0/1"; "Block length at most 65,536", since Q-7 1,048,576; "Any kept sense is well formed."
 unfoldable pub wellFormed : Drive → Bool
 wellFormed d =
     attentionKnown (d .attention)
