@@ -43,7 +43,7 @@ use Rattle.commands.proofs.Faultless.{Well, back, place-small, kept-whole, insi
 use Rattle.commands.proofs.Goes.{has-cartridge}
 use Rattle.commands.proofs.Exact.{acts-exactly}
 use Rattle.commands.proofs.Passed.{all-false}
-use Rattle.reading.proofs.Meeting.{all-left}
+use Rattle.objects.proofs.Residue.{all-left}
 use Rattle.history.proofs.Acted.{writing-drive, marking-drive, sees}
 use Rattle.history.proofs.Always.{acts-after}
 use Rattle.history.proofs.Ended.{Finished, by-number, by-sense, by-act, ended}

@@ -16,7 +16,7 @@ use Rattle.words.specs.Signed.{wrapped}
 use Rattle.words.proofs.Wraps.{wrapped-lt}
 use Rattle.answers.specs.Answers.{checkCondition, answered, first}
 use Rattle.objects.specs.Object.{Object, filemark, block, dataOf, largestBlock}
-use Rattle.image.specs.Image.{count, entry, topBit, endAt, objectAt, objects}
+use Rattle.image.specs.Image.{count, entry, topBit, low31, endAt, objectAt, objects}
 use Rattle.image.proofs.Facts.{Sound, ordered-at, follows-size}
 use Rattle.image.proofs.Objects.{length-objects, object-is, object-data}
 use Rattle.sense.specs.declared.Sense.{Sense}
@@ -104,10 +104,11 @@ met-good : (b bs cmd p0 p1 sent received : List ℕ) → metOf (result (answered
 unfolding metOf
 met-good b bs cmd p0 p1 sent received = ap (λ (x : List ℕ). object (block x)) (carried-back bs received)
 
--- ---- blocks are not longer than the largest
+-- ---- a block has the length that its entry promises, which is at most the largest
 
-block-small : (s : List ℕ) → Sound s → (i : ℕ) (bs : List ℕ) → getElem? (objects s) i ≡ some (block bs) → length bs ≤ largestBlock
-block-small s k i bs e = go (topBit (entry s i)) refl
+pub promised : (s : List ℕ) → Sound s → (i : ℕ) (bs : List ℕ) → getElem? (objects s) i ≡ some (block bs)
+    → (i < count s) × (topBit (entry s i) ≡ false) × (low31 (entry s i) ≡ endAt s i + length bs)
+promised s k i bs e = let q = go (topBit (entry s i)) refl in (h, q .0, q .1)
   where
     h : i < count s
     h = omega (arith, get-lt (objects s) i (block bs) e, length-objects s)
@@ -115,14 +116,17 @@ block-small s k i bs e = go (topBit (entry s i)) refl
     o : objectAt s i ≡ block bs
     o = sym (object-is s i filemark h) ∙ get-getD (objects s) i (block bs) filemark e
 
-    go : (t : Bool) → topBit (entry s i) ≡ t → length bs ≤ largestBlock
+    go : (t : Bool) → topBit (entry s i) ≡ t → (topBit (entry s i) ≡ false) × (low31 (entry s i) ≡ endAt s i + length bs)
     go true q = absurd (let f : objectAt s i ≡ filemark = unfold objectAt in rw q refl in let w : filemark ≡ block bs = sym f ∙ o in let z : _≡_ {A = ℕ} 0 1 = cc in omega arith)
     go false q =
-        let f = follows-size (endAt s i) (entry s i) (ordered-at s i (count s) h (k .in-order)) q in
-        let l : endAt s i + length (dataOf (objectAt s i)) ≡ endAt s (suc i) = object-data s k i h in
-        let m : length (dataOf (objectAt s i)) ≡ length bs = ap (λ (x : Object). length (dataOf x)) o in
-        let n : endAt s (suc i) ≤ endAt s i + largestBlock = unfold endAt in f .1 in
-        omega arith
+        let l : endAt s i + length (dataOf (objectAt s i)) ≡ low31 (entry s i) = unfold endAt in object-data s k i h in
+        (q, sym l ∙ ap (λ (x : Object). endAt s i + length (dataOf x)) o)
+
+block-small : (s : List ℕ) → Sound s → (i : ℕ) (bs : List ℕ) → getElem? (objects s) i ≡ some (block bs) → length bs ≤ largestBlock
+block-small s k i bs e =
+    let q = promised s k i bs e in
+    let f = follows-size (endAt s i) (entry s i) (ordered-at s i (count s) (q .0) (k .in-order)) (q .1) in
+    omega (arith, f .1, q .2)
 
 asked : (b : Bool) → transferOf (readLargest b) ≡ largestBlock
 unfolding transferOf be bytes

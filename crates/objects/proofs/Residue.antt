@@ -28,6 +28,10 @@ sub-pos a b h = go (ltb a b) refl
     go true e = absurd (let z : a < b = ltb→lt a b (subst T (sym e) tt) in omega arith)
     go false e = refl
 
+-- of a request of which nothing is done, all is left
+pub all-left : (n : ℕ) → subℕ n 0 ≡ pos n
+all-left n = sub-pos n 0 (omega arith) ∙ ap pos (let z : n - 0 ≡ n = omega arith in z)
+
 both-zero : (a b : ℕ) → a ≡ 0 → b ≡ 0 → pos a ≡ negℤ (pos b)
 both-zero a b e f = rw (e, f)
 

@@ -1,7 +1,6 @@
 -- What a READ without FIXED meets at the position, and what it then leaves; and which of the two READs is done.
 -- Assumes nothing.
 use Prim.Native.Nat.{ℕ, _+_, _-_, _*_, _^_, _≤_, _<_}
-use native.Mathlib.Nat.{not-suc-le-zero}
 use native.Mathlib.Numerals.{add-one}
 use native.Mathlib.Omega.{arith}
 use mathlib.Core.Path.{_≡_, refl, sym, ap, _∙_}
@@ -14,9 +13,9 @@ use lib.IntN.{pos, subℕ}
 use lib.ListN.{length, take, drop, getElem?, length-take}
 use Rattle.words.specs.Words.{over, limited}
 use Rattle.words.proofs.Laws.{over-nil, part-is}
-use Rattle.words.proofs.Wraps.{subℕ-cases}
 use Rattle.sense.specs.declared.Sense.{Sense}
 use Rattle.objects.specs.Object.{filemark, block}
+use Rattle.objects.proofs.Residue.{all-left}
 use Rattle.image.specs.Image.{count, entry, topBit, endAt, objectAt, objects, sound}
 use Rattle.image.proofs.Judged.{never-both}
 use Rattle.image.proofs.Objects.{object-there, object-past}
@@ -80,13 +79,6 @@ filemark-there s p h t = object-there s p h ∙ rw t refl
 block-there : (s : List ℕ) (p from to : ℕ) → sound s ≡ true → p < count s → topBit (entry s p) ≡ false → from ≡ endAt s p → to ≡ endAt s (p + 1) → getElem? (objects s) p ≡ some (block (take (to - from) (drop from s)))
 unfolding objectAt
 block-there s p from to k h t ef et = object-there s p h ∙ rw (t, ef, et, part-is (endAt s p) (endAt s (p + 1)) s (lies s k p h .grows), add-one p) refl
-
--- a request of which nothing was read
-pub all-left : (n : ℕ) → subℕ n 0 ≡ pos n
-all-left n = subℕ-cases (λ z. z ≡ pos n) n 0 (λ h. absurd (not-suc-le-zero h)) (λ h. ap pos (minus-zero n))
-  where
-    minus-zero : (n : ℕ) → n - 0 ≡ n
-    minus-zero n = omega arith
 
 -- a deed that is another by its definition leaves the same, of the drive and in the receiving buffer
 pub done-as : (x y : Deed) → y ≡ x → (r : Left) (a b : List ℕ) → (r ≡ leftBy x) × (b ≡ over a 0 (x .received)) → (r ≡ leftBy y) × (b ≡ over a 0 (y .received))

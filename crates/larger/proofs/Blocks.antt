@@ -1,0 +1,168 @@
+-- A variable WRITE of a block of any length from 1 to 1,048,576 bytes: where it fits it is put whole, where it does not nothing changes; of a longer one
+-- a field is wrong.
+-- Assumes nothing.
+use Prim.Native.Nat.{ℕ, suc, _+_, _*_, _-_, _^_, _≤_, _<_, zero-le}
+use native.Mathlib.Omega.{arith}
+use mathlib.Core.Path.{_≡_, refl, sym, ap, ap₂, _∙_}
+use mathlib.Core.Bool.{Bool, true, false, cond, not, _&&_}
+use mathlib.Core.Option.{none, some}
+use mathlib.Core.List.{List, [], _∷_}
+use borrow.Author.Tests.{eq-eqb, ne-eqb, le-ltb, lt-ltb}
+use lib.Dec.{eqb, ltb}
+use lib.IntN.{ℤ, pos}
+use lib.ListN.{length, take}
+use lib.Seq.{length-take-le}
+use Rattle.words.specs.Words.{over}
+use Rattle.words.proofs.Laws.{over-nil}
+use Rattle.answers.specs.Answers.{checkCondition, answered, first}
+use Rattle.objects.specs.Object.{Object, block, dataOf, bytesIn, largestBlock}
+use Rattle.objects.specs.Events.{put}
+use Rattle.objects.specs.Room.{trailerLength, entryLength, roomOf, fitsIn, zoneIn}
+use Rattle.objects.specs.Transfer.{fitting, putFrom}
+use Rattle.objects.proofs.Residue.{all-left}
+use Rattle.image.specs.Image.{count, protected, endAt, room, fits, zone, objects}
+use Rattle.image.proofs.Facts.{Sound}
+use Rattle.image.proofs.Objects.{end-bytes}
+use Rattle.changes.specs.Changes.{occur, occurs}
+use Rattle.changes.proofs.Obeys.{Admits, Obeys, obeys, put-next}
+use Rattle.sense.specs.Sense.{senseBytes, emptySense}
+use Rattle.record.specs.declared.drive.Drive.{Drive}
+use Rattle.record.specs.Record.{noAttention, decodeOf, encodeOf, withSense}
+use Rattle.codes.specs.declared.operation.Operation.the-variants.{Write}
+use Rattle.codes.specs.Codes.{codeOf, operationOf, tooShort, masksHold}
+use Rattle.codes.specs.Fields.{fixedOf, transferOf}
+use Rattle.commands.specs.Act.{Seen, Deed, good, checked, carrying, at, warned, overflowed, goesDown, offered, wrote, writing, act, eventsOf}
+use Rattle.commands.specs.Tests.{fieldError, fieldFault, bytesAsked, taken, replyLength, needed, tests}
+use Rattle.commands.specs.Step.{statusOf, keptOf, acted}
+use Rattle.commands.specs.Call.{Lent, lent, Result, result, partition, looksAt, seenOf, seen, laidOut, applied, written, commandTests, commandCall}
+use Rattle.commands.proofs.Ends.{stoppedAt, call-stops, call-acts}
+use Rattle.commands.proofs.Faultless.{Well, fault-free, Inside, inside, seen-there}
+use Rattle.larger.specs.Larger.{currentOf, Writes, blockSent, withBlock, blockPut}
+
+-- ---- one block that is offered goes down exactly if it fits
+
+alone : (l k e : ℕ) (bs : List ℕ) (t : Bool) → fitsIn (roomOf l k e) (length bs) ≡ t → fitting l k e (block bs ∷ []) ≡ cond t (block bs ∷ []) []
+unfolding fitting
+alone l k e bs t h = ap (λ (u : Bool). elim u as (λ y. List Object) [ true ↦ block bs ∷ [] | false ↦ [] ]) h ∙ by t
+  where
+    by : (u : Bool) → elim u as (λ y. List Object) [ true ↦ block bs ∷ [] | false ↦ [] ] ≡ cond u (block bs ∷ []) []
+    by true = refl
+    by false = refl
+
+module _ (n : ℕ) (rec : List ℕ) (x : Lent) (w : Writes n rec x) where
+  abbrev d : Drive
+  d = decodeOf rec
+
+  abbrev p : List ℕ
+  p = currentOf rec x
+
+  i : Inside (decodeOf rec) (x .part0) (x .part1)
+  i = inside (decodeOf rec) (x .part0) (x .part1) (fault-free rec (x .part0) (x .part1) (w .mounted .no-fault) .cart) (λ z. omega (arith, w .mounted .loaded))
+
+  sees : seen Write (decodeOf rec) x ≡ seenOf (currentOf rec x)
+  unfolding looksAt
+  sees = seen-there Write (decodeOf rec) x (i .there)
+
+  -- ---- the tests: the field of a length that is above the largest block, else none
+
+  stops : largestBlock < n → first (commandTests rec x) ≡ some fieldFault
+  unfolding first commandTests tests fieldError
+  stops h =
+      rw (w .is, w .whole, w .mounted .no-fault, eq-eqb (decodeOf rec .attention) noAttention (w .mounted .no-attention), w .masks, w .variable, w .asks, lt-ltb largestBlock n h) refl
+
+  lets : n ≤ largestBlock → first (commandTests rec x) ≡ none
+  unfolding first commandTests tests fieldError taken needed replyLength bytesAsked seenOf
+  lets h =
+      rw (
+        w .is,
+        w .whole,
+        w .mounted .no-fault,
+        eq-eqb (decodeOf rec .attention) noAttention (w .mounted .no-attention),
+        w .masks,
+        w .variable,
+        w .asks,
+        le-ltb largestBlock n h,
+        ne-eqb (decodeOf rec .loaded) 0 (λ z. omega (arith, w .mounted .loaded)),
+        sees,
+        w .unguarded,
+        le-ltb (length (x .sent)) n (w .sends),
+        le-ltb (length (x .received)) 0 zero-le,
+      ) refl
+
+  -- ---- the act
+
+  sized : length (take n (x .sent)) ≡ n
+  sized = length-take-le n (x .sent) (w .sends)
+
+  -- end(n), as the act reckons it
+  before : bytesIn (take (decodeOf rec .position) (objects (currentOf rec x))) ≡ endAt (currentOf rec x) (decodeOf rec .position)
+  before = sym (end-bytes (currentOf rec x) (i .right) (decodeOf rec .position) (i .place))
+
+  module _ (least : 1 ≤ n) where
+    some-bytes : eqb n 0 ≡ false
+    some-bytes = ne-eqb n 0 (λ z. omega arith)
+
+    goes : (t : Bool) → fits (currentOf rec x) (decodeOf rec .position) n ≡ t → goesDown Write (decodeOf rec) (x .cmd) (x .sent) (seenOf (currentOf rec x)) ≡ cond t (blockSent n x ∷ []) []
+    unfolding goesDown offered seenOf fits room
+    goes t f =
+        let h : fitsIn (roomOf (length (currentOf rec x)) (decodeOf rec .position) (bytesIn (take (decodeOf rec .position) (objects (currentOf rec x))))) (length (take n (x .sent))) ≡ t = rw (before, sized) f in
+        rw (w .variable, w .asks, some-bytes) (alone (length (currentOf rec x)) (decodeOf rec .position) _ (take n (x .sent)) t h)
+
+    -- where it does not fit, the request is what is not put, and nothing else is told of it
+    overflows : fits (currentOf rec x) (decodeOf rec .position) n ≡ false → act Write (decodeOf rec) (x .cmd) (x .sent) (seenOf (currentOf rec x)) ≡ checked (at (decodeOf rec) (decodeOf rec .position)) (overflowed (pos n))
+    unfolding act writing wrote bytesIn
+    overflows f =
+        let there : Deed = act Write (decodeOf rec) (x .cmd) (x .sent) (seenOf (currentOf rec x)) in
+        let e : there ≡ checked (at (decodeOf rec) (decodeOf rec .position + 0)) (overflowed (pos n)) = rw (w .variable, w .asks, some-bytes, goes false f) (ap (λ (z : ℤ). checked (at (decodeOf rec) (decodeOf rec .position + 0)) (overflowed z)) (all-left n)) in
+        let z : decodeOf rec .position + 0 ≡ decodeOf rec .position = omega arith in
+        e ∙ ap (λ (k : ℕ). checked (at (decodeOf rec) k) (overflowed (pos n))) z
+
+    module _ (most : n ≤ largestBlock) (f : fits (currentOf rec x) (decodeOf rec .position) n ≡ true) where
+      admitted : Admits (put (decodeOf rec .position) (blockSent n x)) (currentOf rec x)
+      admitted = (i .place, (omega (arith, sized), omega (arith, sized)), rw sized f)
+
+      zoned : zoneIn (length (currentOf rec x)) (roomOf (length (currentOf rec x)) (suc (decodeOf rec .position)) (bytesIn (take (decodeOf rec .position) (objects (currentOf rec x))) + n)) ≡ zone (withBlock n rec x) (suc (decodeOf rec .position))
+      unfolding zone room
+      zoned = rw (obeys _ (currentOf rec x) (i .right) admitted .same-length, put-next (decodeOf rec .position) (blockSent n x) (currentOf rec x) (i .right) admitted .1, before, sized) refl
+
+      -- at number k, with c bytes carried
+      abbrev left : ℕ → ℕ → Deed
+      left k c =
+          let l : ℕ = length (currentOf rec x) in
+          carrying c (cond (zoneIn l (roomOf l k (bytesIn (take (decodeOf rec .position) (objects (currentOf rec x))) + c))) (checked (at (decodeOf rec) k) warned) (good (at (decodeOf rec) k)))
+
+      puts : act Write (decodeOf rec) (x .cmd) (x .sent) (seenOf (currentOf rec x))
+          ≡ carrying n (cond (zone (withBlock n rec x) (suc (decodeOf rec .position))) (checked (at (decodeOf rec) (suc (decodeOf rec .position))) warned) (good (at (decodeOf rec) (suc (decodeOf rec .position)))))
+      unfolding act writing wrote bytesIn seenOf
+      puts =
+          let there : Deed = act Write (decodeOf rec) (x .cmd) (x .sent) (seenOf (currentOf rec x)) in
+          let e : there ≡ left (decodeOf rec .position + 1) (length (take n (x .sent)) + 0) = rw (w .variable, w .asks, some-bytes, goes true f) refl in
+          let next : decodeOf rec .position + 1 ≡ suc (decodeOf rec .position) = omega arith in
+          let all : length (take n (x .sent)) + 0 ≡ n = omega (arith, sized) in
+          e ∙ ap₂ left next all ∙ ap (λ (z : Bool). carrying n (cond z (checked (at (decodeOf rec) (suc (decodeOf rec .position))) warned) (good (at (decodeOf rec) (suc (decodeOf rec .position)))))) zoned
+
+      -- ---- the call
+
+      pub put-whole : commandCall rec x ≡ blockPut n rec x
+      unfolding applied acted laidOut looksAt eventsOf putFrom occurs statusOf keptOf
+      put-whole = call-acts rec x (lets most) ∙ rw (w .is, sees, puts, goes true f) (by (zone (withBlock n rec x) (suc (decodeOf rec .position))) (eqb (decodeOf rec .current) 1))
+        where
+          e : Drive
+          e = at (decodeOf rec) (suc (decodeOf rec .position))
+
+          deed : Bool → Deed
+          deed z = carrying n (cond z (checked e warned) (good e))
+
+          laid : List ℕ → List ℕ
+          laid q = occur (put (decodeOf rec .position) (blockSent n x)) q
+
+          -- z: in the zone; c: partition 1 is current
+          by : (z c : Bool)
+              → result (answered (statusOf (deed z .tells)) (deed z .carried) (deed z .crossed)) (encodeOf (withSense (deed z .drive) (keptOf (deed z .tells))))
+              (lent (x .cmd) (cond c (x .part0) (laid (x .part0))) (cond c (laid (x .part1)) (x .part1)) (x .sent) (over (x .received) 0 (deed z .received)))
+              ≡ result (answered (cond z checkCondition 0x00) n 0) (encodeOf (withSense e (cond z (senseBytes warned) emptySense)))
+              (lent (x .cmd) (cond c (x .part0) (laid (cond c (x .part1) (x .part0)))) (cond c (laid (cond c (x .part1) (x .part0))) (x .part1)) (x .sent) (x .received))
+          by true true = rw (over-nil (x .received) 0) refl
+          by true false = rw (over-nil (x .received) 0) refl
+          by false true = rw (over-nil (x .received) 0) refl
+          by false false = rw (over-nil (x .received) 0) refl
