@@ -78,12 +78,12 @@ static inline void compare_bytes(const uint8_t *got, const uint8_t *want, size_t
 {
     va_list arguments;
     size_t i = 0;
-    while (i < length && got[i] == want[i])
-        i++;
-    if (i == length) {
+    if (length == 0 || memcmp(got, want, length) == 0) {
         checks_passed++;
         return;
     }
+    while (got[i] == want[i])
+        i++;
     printf("%s:%d: byte %zu is %02xh, expected %02xh: ", file, line, i, got[i], want[i]);
     va_start(arguments, format);
     say_what(format, arguments);

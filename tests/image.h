@@ -1,8 +1,11 @@
-/* image.h: a partition image in plain C, written from document 01 alone: laid, judged and looked up. */
+/* image.h: a partition image in plain C, written from 01 and 02 alone: laid, judged and looked up. */
 #ifndef IMAGE_H
 #define IMAGE_H
 
 #include "check.h"
+
+/* The largest block of document 01, before Q-7 of 02 raises it: a length like any other now, and so is one more. */
+enum { FORMER_LARGEST = 65536 };
 
 /* Example E as 01 prints it: block 01 02 03, then a filemark. */
 static const uint8_t example_e[E_BYTES] = {

@@ -7,14 +7,23 @@
 
 enum { CANARIES = 64, CANARY = 0xc5 };
 
+/* Goes on with the bytes at the start, so many of them, again and again. */
+static inline void repeat_bytes(uint8_t *bytes, size_t period, size_t length)
+{
+    for (size_t done = period; done < length; done *= 2)
+        memcpy(bytes + done, bytes, done < length - done ? done : length - done);
+}
+
 /* Bytes none of which is 0, as a fresh page or a blank would have it. */
 static inline uint8_t *patterned(size_t length)
 {
+    enum { PERIOD = 251 };
     uint8_t *bytes = malloc(length + 1);
     if (bytes == NULL)
         abort();
-    for (size_t i = 0; i < length; i++)
-        bytes[i] = (uint8_t)(i % 251 + 3);
+    for (size_t i = 0; i < PERIOD && i < length; i++)
+        bytes[i] = (uint8_t)(i + 3);
+    repeat_bytes(bytes, PERIOD, length);
     return bytes;
 }
 
@@ -24,21 +33,27 @@ static inline uint8_t *lend(const uint8_t *bytes, size_t length)
     uint8_t *room = malloc(length + 2 * CANARIES);
     if (room == NULL)
         abort();
-    memset(room, CANARY, length + 2 * CANARIES);
+    memset(room, CANARY, CANARIES);
     if (length > 0)
         memcpy(room + CANARIES, bytes, length);
+    memset(room + CANARIES + length, CANARY, CANARIES);
     return room + CANARIES;
 }
 
-/* Checks the canaries around lent bytes, and frees them. */
-static inline void take_back(uint8_t *lent, size_t length)
+/* Checks the canaries around lent bytes. */
+static inline void look_at_canaries(const uint8_t *lent, size_t length)
 {
-    uint8_t *room = lent - CANARIES;
     int alive = 1;
     for (size_t i = 0; i < CANARIES; i++)
-        alive = alive && room[i] == CANARY && lent[length + i] == CANARY;
+        alive = alive && lent[(ptrdiff_t)i - CANARIES] == CANARY && lent[length + i] == CANARY;
     expect(alive, "canaries around %zu lent bytes", length);
-    free(room);
+}
+
+/* The same, and frees them. */
+static inline void take_back(uint8_t *lent, size_t length)
+{
+    look_at_canaries(lent, length);
+    free(lent - CANARIES);
 }
 
 /* A copy that ends where readable memory ends, on pages that cannot be written. */

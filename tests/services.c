@@ -22,7 +22,8 @@ static void blank_by_length(void)
 {
     static const size_t refused[] = {0, 1, TRAILER - 1, TRAILER, 32, SHORTEST - 2, SHORTEST - 1};
     static const size_t made[] = {SHORTEST, SHORTEST + 1, SHORTEST + 2, SHORTEST + 3, 128, 255, 256, 4096,
-                                  LARGEST_BLOCK - 1, LARGEST_BLOCK, LARGEST_BLOCK + 1, 1000003};
+                                  FORMER_LARGEST - 1, FORMER_LARGEST, FORMER_LARGEST + 1, 1000003, LARGEST_BLOCK - 1,
+                                  LARGEST_BLOCK, LARGEST_BLOCK + 1};
     for (size_t i = 0; i < COUNT(refused); i++)
         refuses_length(stormtoggle_blank, refused[i], BY_LENGTH, "blank");
     for (size_t i = 0; i < COUNT(made); i++)
@@ -137,10 +138,24 @@ static void many_blocks(void)
     free(image);
 }
 
-/* The longest image, blank and then full of largest blocks. */
+/* So many blocks of a size fill the longest image: one more does not fit. The last of them starts here. */
+static void full_cartridge(uint8_t *image, uint32_t size, uint32_t blocks, uint32_t start)
+{
+    for (uint32_t i = 0; i < blocks; i++)
+        set_entry(image, LONGEST, i, (i + 1) * size);
+    lay_trailer(image, LONGEST, blocks, 0);
+    expect(LONGEST - TRAILER - (uint64_t)blocks * (ENTRY + size) < ENTRY + size, "a full cartridge of %u", (unsigned)size);
+    expect_equal(stormtoggle_view(image, LONGEST, NULL, 0, 0, blocks - 1), FOUND(start, size),
+                 "the last block of a full cartridge of %u", (unsigned)size);
+    expect_equal(stormtoggle_view(image, LONGEST, NULL, 0, 0, blocks), 0, "past the last block of %u", (unsigned)size);
+    expect_equal(stormtoggle_protect(image, LONGEST, 1), DONE, "protect of a full cartridge of %u", (unsigned)size);
+    expect_equal(get_field(image, LONGEST, TRAILER_FLAGS), FLAG_PROTECTED, "flags of a full cartridge of %u",
+                 (unsigned)size);
+}
+
+/* The longest image, blank and then full of largest blocks, and of those that were the largest once. */
 static void longest_image(void)
 {
-    enum { BLOCKS = 16382 };
     uint8_t *image = sparse(LONGEST), want[SHORTEST] = {0};
     if (image == NULL)
         return;
@@ -150,13 +165,8 @@ static void longest_image(void)
     expect_equal(stormtoggle_blank(image, LONGEST), DONE, "blank of 1,073,741,824 bytes");
     expect_bytes(image + LONGEST - sizeof want, want, sizeof want, "the end of the longest blank");
     expect_equal(stormtoggle_protect(image, LONGEST, 1), DONE, "protect of 1,073,741,824 bytes");
-    for (uint32_t i = 0; i < BLOCKS; i++)
-        set_entry(image, LONGEST, i, (i + 1) * LARGEST_BLOCK);
-    lay_trailer(image, LONGEST, BLOCKS, 0);
-    expect_equal(stormtoggle_view(image, LONGEST, NULL, 0, 0, BLOCKS - 1), FOUND(0x3ffd0000, LARGEST_BLOCK),
-                 "the last block of a full cartridge");
-    expect_equal(stormtoggle_protect(image, LONGEST, 1), DONE, "protect of a full cartridge");
-    expect_equal(get_field(image, LONGEST, TRAILER_FLAGS), FLAG_PROTECTED, "flags of a full cartridge");
+    full_cartridge(image, LARGEST_BLOCK, 1023, 0x3fe00000);
+    full_cartridge(image, FORMER_LARGEST, 16382, 0x3ffd0000);
     munmap(image, LONGEST);
 }
 

@@ -125,7 +125,7 @@ static void unknown_flags(void)
 
 static void directories(void)
 {
-    enum { BOTH = 2 * LARGEST_BLOCK + SHORTEST };
+    enum { BOTH = 2 * LARGEST_BLOCK + SHORTEST, FORMER_BOTH = 2 * FORMER_LARGEST + SHORTEST };
     static const struct {
         const char *what;
         size_t length, objects;
@@ -133,9 +133,20 @@ static void directories(void)
         int is_sound;
     } rows[] = {
         {"largest block", BOTH, 1, {LARGEST_BLOCK}, 1},
-        {"block of 65,537", BOTH, 1, {LARGEST_BLOCK + 1}, 0},
+        {"block of 1,048,577", BOTH, 1, {LARGEST_BLOCK + 1}, 0},
         {"largest block after another", BOTH, 2, {3, 3 + LARGEST_BLOCK}, 1},
-        {"block of 65,537 after another", BOTH, 2, {3, 4 + LARGEST_BLOCK}, 0},
+        {"block of 1,048,577 after another", BOTH, 2, {3, 4 + LARGEST_BLOCK}, 0},
+        {"block of 1,048,577 after a filemark", BOTH, 2, {ENTRY_FILEMARK, LARGEST_BLOCK + 1}, 0},
+        {"two largest blocks", BOTH, 2, {LARGEST_BLOCK, 2 * LARGEST_BLOCK}, 1},
+        {"largest block, D a byte too low for it", LARGEST_BLOCK + TRAILER + ENTRY - 1, 1, {LARGEST_BLOCK}, 0},
+        {"largest block, end(N) is D", LARGEST_BLOCK + TRAILER + ENTRY, 1, {LARGEST_BLOCK}, 1},
+        /* "Older images stay sound", and what was one byte too long no longer is. */
+        {"block of 65,536", FORMER_BOTH, 1, {FORMER_LARGEST}, 1},
+        {"block of 65,537", FORMER_BOTH, 1, {FORMER_LARGEST + 1}, 1},
+        {"block of 65,536 after another", FORMER_BOTH, 2, {3, 3 + FORMER_LARGEST}, 1},
+        {"block of 65,537 after another", FORMER_BOTH, 2, {3, 4 + FORMER_LARGEST}, 1},
+        {"two blocks of 65,536 and a filemark", FORMER_BOTH, 3,
+         {FORMER_LARGEST, 2 * FORMER_LARGEST, ENTRY_FILEMARK | 2 * FORMER_LARGEST}, 1},
         {"block of 0", SHORTEST, 1, {0}, 0},
         {"block of 0 after another", SHORTEST, 2, {3, 3}, 0},
         {"block that ends before it starts", SHORTEST, 2, {3, 2}, 0},

@@ -34,7 +34,7 @@ static const struct edge crossed_blocks[] = {
     BOTH("blocks 5 of a blank", BLANK, BLOCKS, 5, AT(0), .after = AT(0), .told = RESIDUE(TOLD_END_OF_DATA, 5)),
     BOTH("blocks 2 to the zone", LEFT_2, BLOCKS, 2, AT(0), .after = AT(1), .crossed = 1,
          .told = RESIDUE(TOLD_END_IN_ZONE, 1)),
-    BOTH("blocks 2, which are all", BIG_BEFORE, BLOCKS, 2, AT(0), .after = AT(2), .crossed = 2),
+    BOTH("blocks 2, which are all", FORMER_BEFORE, BLOCKS, 2, AT(0), .after = AT(2), .crossed = 2),
     BOTH("blocks 3 amid objects", MIXED, BLOCKS, 3, AT(2), .after = AT(5), .crossed = 3),
     BOTH("blocks 4 amid objects", MIXED, BLOCKS, 4, AT(2), .after = AT(6), .crossed = 4,
          .told = RESIDUE(TOLD_FILEMARK, 1)),
@@ -266,7 +266,7 @@ static const struct edge crossed_by_no_other[] = {
      .data = {LONG_BYTES, {[15] = 6, [23] = 2}}},
     {"TEST UNIT READY", MIXED, SIX(TEST_UNIT_READY, 0, 0), AT(5), .after = AT(5)},
     {"READ BLOCK LIMITS", MIXED, SIX(READ_BLOCK_LIMITS, 0, 0), AT(5), .room = LIMITS_BYTES, .after = AT(5),
-     .data = BYTES(0, 1, 0, 0, 0, 1)},
+     .data = BYTES(0, 0x10, 0, 0, 0, 1)},
     {"a code not served", MIXED, SIX(INQUIRY, 0, 5), AT(5), .after = AT(5), .told = PLAIN(TOLD_NOT_SERVED)},
 };
 

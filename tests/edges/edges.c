@@ -5,6 +5,7 @@
 #include "data.h"
 #include "descriptors.h"
 #include "ends.h"
+#include "large.h"
 #include "long.h"
 #include "merged.h"
 #include "mounted.h"
@@ -259,6 +260,7 @@ int main(void)
     merged_moves();
     mounted_drives();
     sense_in_descriptors();
+    large_blocks();
     three_lives();
     printf("%lu cases\n", cases_run);
     return tally();

@@ -27,8 +27,10 @@
 static const struct edge end_read[] = {
     MET("READ 5 at N", LEFT_3, LEFT_2, SIX(READ, 0, 5), AT(1), 5, .room = 16, .after = AT(1)),
     MET("READ 1 at N", LEFT_3, LEFT_2, SIX(READ, 0, 1), AT(1), 1, .room = 1, .after = AT(1)),
-    MET("READ 65,536 at N", LEFT_3, LEFT_2, SIX(READ, 0, LARGEST_BLOCK), AT(1), LARGEST_BLOCK, .room = LARGEST_BLOCK,
-        .after = AT(1)),
+    MET("READ 65,536 at N", LEFT_3, LEFT_2, SIX(READ, 0, FORMER_LARGEST), AT(1), FORMER_LARGEST,
+        .room = FORMER_LARGEST, .after = AT(1)),
+    MET("READ 1,048,576 at N", LEFT_3, LEFT_2, SIX(READ, 0, LARGEST_BLOCK), AT(1), LARGEST_BLOCK,
+        .room = LARGEST_BLOCK, .after = AT(1)),
     MET("READ with SILI at N", LEFT_3, LEFT_2, SIX(READ, SILI, 5), AT(1), 5, .room = 5, .after = AT(1)),
     MET("READ at N, a block length set", LEFT_3, LEFT_2, SIX(READ, 0, 5), SET(3, 1), 5, .room = 5, .after = SET(3, 1)),
     MET("READ behind a filemark", MARKED_3, MARKED_2, SIX(READ, 0, 5), AT(2), 5, .room = 5, .after = AT(2)),
@@ -219,7 +221,7 @@ static const struct edge end_of_two[] = {
      .p1 = LEFT_2, .after = TWO(1, 1), .told = PLAIN(TOLD_FIELD)},
 };
 
-/* ---- other partitions: those of 65 bytes have their bound between rooms, those of 80 and of 131,136 on one */
+/* ---- other partitions: those of 65 bytes have their bound between rooms, those of 80, of 131,136 and of 2,097,216 on one */
 
 static const struct edge end_of_others[] = {
     MET("READ of 65 bytes", LEFT_4_OF_65, LEFT_3_OF_65, SIX(READ, 0, 5), AT(1), 5, .room = 5, .after = AT(1)),
@@ -229,9 +231,14 @@ static const struct edge end_of_others[] = {
     MET("SPACE (16) of 80 bytes", LEFT_4_OF_80, LEFT_3_OF_80, SPACE_16(FILEMARKS, 1), AT(0), 1, .after = AT(1),
         .crossed = 1),
     MET_PLAIN("LOCATE (16) of 80 bytes", LEFT_4_OF_80, LEFT_3_OF_80, LOCATE_16(TO_FILE, 1, 0), AT(0), .after = AT(1)),
-    MET("READ of 131,136 bytes", BIG_BEFORE, BIG_IN, SIX(READ, 0, 5), AT(2), 5, .room = 5, .after = AT(2)),
-    MET("SPACE of 131,136 bytes", BIG_BEFORE, BIG_IN, SIX(SPACE, BLOCKS, 3), AT(0), 1, .after = AT(2), .crossed = 2),
-    MET_PLAIN("LOCATE (16) of 131,136 bytes", BIG_BEFORE, BIG_IN, LOCATE_16(TO_OBJECT, 3, 0), AT(0), .after = AT(2)),
+    MET("READ of 131,136 bytes", FORMER_BEFORE, FORMER_IN, SIX(READ, 0, 5), AT(2), 5, .room = 5, .after = AT(2)),
+    MET("SPACE of 131,136 bytes", FORMER_BEFORE, FORMER_IN, SIX(SPACE, BLOCKS, 3), AT(0), 1, .after = AT(2),
+        .crossed = 2),
+    MET_PLAIN("LOCATE (16) of 131,136 bytes", FORMER_BEFORE, FORMER_IN, LOCATE_16(TO_OBJECT, 3, 0), AT(0),
+              .after = AT(2)),
+    MET("READ of 2,097,216 bytes", BIG_BEFORE, BIG_IN, SIX(READ, 0, 5), AT(2), 5, .room = 5, .after = AT(2)),
+    MET("SPACE of 2,097,216 bytes", BIG_BEFORE, BIG_IN, SIX(SPACE, BLOCKS, 3), AT(0), 1, .after = AT(2), .crossed = 2),
+    MET_PLAIN("LOCATE (16) of 2,097,216 bytes", BIG_BEFORE, BIG_IN, LOCATE_16(TO_OBJECT, 3, 0), AT(0), .after = AT(2)),
     MET("READ of a protected one", GUARDED_3, GUARDED_2, SIX(READ, 0, 5), AT(1), 5, .room = 5, .after = AT(1)),
     MET("SPACE of a protected one", GUARDED_3, GUARDED_2, SIX(SPACE, FILEMARKS, 1), AT(0), 1, .after = AT(1),
         .crossed = 1),

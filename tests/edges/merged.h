@@ -6,7 +6,7 @@
 #include "order.h"
 
 /* MIXED has filemarks at 1 and 5 of 7 objects, so its blocks from 2 to 4 are a stretch; FILES has them at 2 and 4 of 5,
- * PARTED at 1 of 3, PAIR at 2 of 3. BIG_BEFORE and BIG_IN are two blocks, and the end of BIG_IN is in the zone. */
+ * PARTED at 1 of 3, PAIR at 2 of 3. FORMER_BEFORE and FORMER_IN are two blocks, and the end of the latter is in the zone. */
 
 /* ---- over blocks "for all signs" */
 
@@ -26,7 +26,7 @@ static const struct merged merged_blocks[] = {
     BY_EACH("blocks 0, -1", MIXED, AT(3), BLOCKS, 0, GOES(3, 0), -1, GOES(2, 1), -1, GOES(2, 1), ONE_WAY),
     BY_EACH("blocks -1, 0", MIXED, AT(3), BLOCKS, -1, GOES(2, 1), 0, GOES(2, 0), -1, GOES(2, 1), ONE_WAY),
     BY_EACH("blocks 0, 0", MIXED, AT(4), BLOCKS, 0, GOES(4, 0), 0, GOES(4, 0), 0, GOES(4, 0), ONE_WAY),
-    BY_EACH("blocks 1, 1 to the end in the zone", BIG_IN, AT(0), BLOCKS, 1, GOES(1, 1), 1, GOES(2, 1), 2, GOES(2, 2),
+    BY_EACH("blocks 1, 1 to the end in the zone", FORMER_IN, AT(0), BLOCKS, 1, GOES(1, 1), 1, GOES(2, 1), 2, GOES(2, 2),
             ONE_WAY),
     BY_EACH("blocks 2, 1 of partition 1", E, TWO(1, 2), BLOCKS, 2, GOES(4, 2), 1, GOES(5, 1), 3, GOES(5, 3), ONE_WAY,
             .p1 = MIXED),
@@ -83,11 +83,11 @@ static const struct merged merged_filemarks[] = {
 /* ---- one way, the first GOOD: the one ends as the second does, sense and residue included */
 
 static const struct merged merged_to_a_stop[] = {
-    BY_EACH("blocks 1, 5 to end of data", BIG_BEFORE, AT(0), BLOCKS, 1, GOES(1, 1), 5,
+    BY_EACH("blocks 1, 5 to end of data", FORMER_BEFORE, AT(0), BLOCKS, 1, GOES(1, 1), 5,
             STOPS(2, 1, TOLD_END_OF_DATA, 4), 6, STOPS(2, 2, TOLD_END_OF_DATA, 4), ONE_WAY),
     BY_EACH("blocks 1, 5 at end of data", TEN, AT(0), BLOCKS, 1, GOES(1, 1), 5, STOPS(1, 0, TOLD_END_OF_DATA, 5), 6,
             STOPS(1, 1, TOLD_END_OF_DATA, 5), ONE_WAY),
-    BY_EACH("blocks 1, 5 to the zone", BIG_IN, AT(0), BLOCKS, 1, GOES(1, 1), 5, STOPS(2, 1, TOLD_END_IN_ZONE, 4), 6,
+    BY_EACH("blocks 1, 5 to the zone", FORMER_IN, AT(0), BLOCKS, 1, GOES(1, 1), 5, STOPS(2, 1, TOLD_END_IN_ZONE, 4), 6,
             STOPS(2, 2, TOLD_END_IN_ZONE, 4), ONE_WAY),
     BY_EACH("blocks -1, -5 to the beginning", PAIR, AT(2), BLOCKS, -1, GOES(1, 1), -5,
             STOPS(0, 1, TOLD_BEGINNING, 0xfffffffc), -6, STOPS(0, 2, TOLD_BEGINNING, 0xfffffffc), ONE_WAY),
@@ -151,7 +151,7 @@ static const struct merged merged_behind_a_stop[] = {
             STOPS(5, 2, TOLD_FILEMARK, 0xfffffffc), 0, GOES(6, 0), ELSEWHERE),
     BY_EACH("blocks -5, 5, stopped at the beginning", PAIR, AT(2), BLOCKS, -5,
             STOPS(0, 2, TOLD_BEGINNING, 0xfffffffd), 5, STOPS(3, 3, TOLD_FILEMARK, 3), 0, GOES(2, 0), ELSEWHERE),
-    BY_EACH("blocks 2, -2, the second GOOD", BIG_BEFORE, AT(1), BLOCKS, 2, STOPS(2, 1, TOLD_END_OF_DATA, 1), -2,
+    BY_EACH("blocks 2, -2, the second GOOD", FORMER_BEFORE, AT(1), BLOCKS, 2, STOPS(2, 1, TOLD_END_OF_DATA, 1), -2,
             GOES(0, 2), 0, GOES(1, 0), ELSEWHERE),
     BY_EACH("filemarks 3, -2, stopped at end of data", FILES, AT(0), FILEMARKS, 3, STOPS(5, 5, TOLD_END_OF_DATA, 1),
             -2, GOES(2, 3), 1, GOES(3, 3), ELSEWHERE),

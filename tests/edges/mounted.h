@@ -30,14 +30,19 @@ static const struct mounting {
     {"over block length 32,767", EMPTY(MOUNTED_LENGTH - 1), E, NONE, 0, 0},
     {"over block length 32,768", EMPTY(MOUNTED_LENGTH), E, NONE, 0, 0},
     {"over block length 32,768, two partitions", EMPTY(MOUNTED_LENGTH), TILE, E, 0, 0},
-    {"over block length 65,536", EMPTY(LARGEST_BLOCK), E, NONE, 0, 0},
-    {"over block length 65,536, of a block as long", EMPTY(LARGEST_BLOCK), BIG, NONE, 0, 0},
-    {"over block length 65,536, two partitions", EMPTY(LARGEST_BLOCK), E, TILES_2, 0, 0},
+    {"over block length 65,536", EMPTY(FORMER_LARGEST), E, NONE, 0, 0},
+    {"over block length 65,536, of a block as long", EMPTY(FORMER_LARGEST), FORMER, NONE, 0, 0},
+    {"over block length 65,536, two partitions", EMPTY(FORMER_LARGEST), E, TILES_2, 0, 0},
+    {"over block length 65,537", EMPTY(FORMER_LARGEST + 1), E, NONE, 0, 0},
+    {"over block length 1,048,576", EMPTY(LARGEST_BLOCK), E, NONE, 0, 0},
+    {"over block length 1,048,576, of a block as long", EMPTY(LARGEST_BLOCK), BIG, NONE, 0, 0},
+    {"over block length 1,048,576, two partitions", EMPTY(LARGEST_BLOCK), E, TILES_2, 0, 0},
     {"while 28h waits", BARE(ATTENTION_MOUNTED, 512), FULL, NONE, 0, 0},
     {"while 28h waits, two partitions", BARE(ATTENTION_MOUNTED, 0), FULL, FULL, 0, 0},
-    {"while 29h waits, over block length 65,536", BARE(ATTENTION_FRESH, LARGEST_BLOCK), E, GUARDED, 0, 0},
+    {"while 29h waits, over block length 65,536", BARE(ATTENTION_FRESH, FORMER_LARGEST), E, GUARDED, 0, 0},
+    {"while 29h waits, over block length 1,048,576", BARE(ATTENTION_FRESH, LARGEST_BLOCK), E, GUARDED, 0, 0},
     /* Refused, it leaves every byte: the length that is there, be it 0, another or its own, is not the mount's. */
-    {"of block length 65,537", EMPTY(LARGEST_BLOCK + 1), E, NONE, BY_DRIVE, 0},
+    {"of block length 1,048,577", EMPTY(LARGEST_BLOCK + 1), E, NONE, BY_DRIVE, 0},
     {"of a block length with its top bit", EMPTY(0x80008000), E, NONE, BY_DRIVE, 0},
     {"of 00 80 00 in the wrong place", EMPTY(0x800000), E, MIXED, BY_DRIVE, 0},
     {"while 2Ah waits", BARE(0x2a, 0), E, NONE, BY_DRIVE, 0},
@@ -51,7 +56,8 @@ static const struct mounting {
     {"of nothing, over block length 512", EMPTY(512), NONE, NONE, BY_LENGTH, 0},
     {"of nothing before a second one", BARE(ATTENTION_FRESH, 0), NONE, E, BY_LENGTH, 0},
     {"of an unsound one, over block length 0", EMPTY(0), UNSOUND, NONE, BY_UNSOUND, 0},
-    {"of an unsound one, over block length 65,536", EMPTY(LARGEST_BLOCK), OVERLAPPING, E, BY_UNSOUND, 0},
+    {"of an unsound one, over block length 65,536", EMPTY(FORMER_LARGEST), OVERLAPPING, E, BY_UNSOUND, 0},
+    {"of an unsound one, over block length 1,048,576", EMPTY(LARGEST_BLOCK), OVERLAPPING, E, BY_UNSOUND, 0},
     {"of an unsound second one", BARE(ATTENTION_FRESH, 0), E, UNSOUND, BY_UNSOUND, 0},
 };
 
@@ -102,9 +108,9 @@ static void hold_fresh(struct call *call, const char *what)
 }
 
 /* Each of them, and fresh over the record that it leaves, if that has thirty bytes. */
-static void run_mountings(void)
+static void run_mountings(const struct mounting *rows, size_t count)
 {
-    for (const struct mounting *row = mountings; row < mountings + COUNT(mountings); row++) {
+    for (const struct mounting *row = rows; row < rows + count; row++) {
         struct call call = lent_for(row);
         hold_mount(&call, row->refusal, row->what);
         if (row->cut == 0)
@@ -149,8 +155,10 @@ static const struct edge variable_as_mounted[] = {
     {"SILI hides no block of 32,768 in READ 32,767", TILE, SIX(READ, SILI, MOUNTED_LENGTH - 1), MOUNTED(0),
      .room = MOUNTED_LENGTH, .after = MOUNTED(1), .told = RESIDUE(TOLD_LENGTH, 0xffffffff),
      .reads = MOUNTED_LENGTH - 1},
-    {"SILI hides no block of 65,536 in READ 32,768", BIG, SIX(READ, SILI, MOUNTED_LENGTH), MOUNTED(0),
+    {"SILI hides no block of 65,536 in READ 32,768", FORMER, SIX(READ, SILI, MOUNTED_LENGTH), MOUNTED(0),
      .room = MOUNTED_LENGTH, .after = MOUNTED(1), .told = RESIDUE(TOLD_LENGTH, 0xffff8000), .reads = MOUNTED_LENGTH},
+    {"SILI hides no block of 1,048,576 in READ 32,768", BIG, SIX(READ, SILI, MOUNTED_LENGTH), MOUNTED(0),
+     .room = MOUNTED_LENGTH, .after = MOUNTED(1), .told = RESIDUE(TOLD_LENGTH, 0xfff08000), .reads = MOUNTED_LENGTH},
     {"READ 32,768 of a block of 32,768", TILE, SIX(READ, 0, MOUNTED_LENGTH), MOUNTED(0), .room = MOUNTED_LENGTH,
      .after = MOUNTED(1), .reads = MOUNTED_LENGTH},
     {"READ 10,240 of a block of 32,768", TILE, SIX(READ, 0, 10240), MOUNTED(0), .room = 10240, .after = MOUNTED(1),
@@ -160,17 +168,21 @@ static const struct edge variable_as_mounted[] = {
      .told = RESIDUE(TOLD_LENGTH, 0xfffffffe), .data = BYTES(1)},
     {"WRITE 1 is no FIXED WRITE of 1", BLANK, SIX(WRITE, 0, 1), MOUNTED(0), .sent = 1, .after = MOUNTED(1),
      .carried = 1, .puts = "b1"},
-    {"WRITE 10,240", BIG, SIX(WRITE, 0, 10240), MOUNTED(0), .sent = 10240, .after = MOUNTED(1), .carried = 10240,
+    {"WRITE 10,240", FORMER, SIX(WRITE, 0, 10240), MOUNTED(0), .sent = 10240, .after = MOUNTED(1), .carried = 10240,
      .puts = "b10240"},
-    {"WRITE 32,767", BIG, SIX(WRITE, 0, 32767), MOUNTED(0), .sent = 32767, .after = MOUNTED(1), .carried = 32767,
+    {"WRITE 32,767", FORMER, SIX(WRITE, 0, 32767), MOUNTED(0), .sent = 32767, .after = MOUNTED(1), .carried = 32767,
      .puts = "b32767"},
-    {"WRITE 32,768", BIG, SIX(WRITE, 0, 32768), MOUNTED(0), .sent = 32768, .after = MOUNTED(1), .carried = 32768,
+    {"WRITE 32,768", FORMER, SIX(WRITE, 0, 32768), MOUNTED(0), .sent = 32768, .after = MOUNTED(1), .carried = 32768,
      .puts = "b32768"},
-    {"WRITE 32,769", BIG, SIX(WRITE, 0, 32769), MOUNTED(0), .sent = 32769, .after = MOUNTED(1), .carried = 32769,
+    {"WRITE 32,769", FORMER, SIX(WRITE, 0, 32769), MOUNTED(0), .sent = 32769, .after = MOUNTED(1), .carried = 32769,
      .puts = "b32769"},
-    {"WRITE 65,536", BIG, SIX(WRITE, 0, LARGEST_BLOCK), MOUNTED(0), .sent = LARGEST_BLOCK, .after = MOUNTED(1),
+    {"WRITE 65,536", FORMER, SIX(WRITE, 0, FORMER_LARGEST), MOUNTED(0), .sent = FORMER_LARGEST, .after = MOUNTED(1),
+     .carried = FORMER_LARGEST, .puts = "b65536"},
+    {"WRITE 65,537", FORMER, SIX(WRITE, 0, FORMER_LARGEST + 1), MOUNTED(0), .sent = FORMER_LARGEST + 1,
+     .after = MOUNTED(1), .carried = FORMER_LARGEST + 1, .puts = "b65537"},
+    {"WRITE 1,048,576", BIG, SIX(WRITE, 0, LARGEST_BLOCK), MOUNTED(0), .sent = LARGEST_BLOCK, .after = MOUNTED(1),
      .carried = LARGEST_BLOCK, .puts = "B"},
-    {"WRITE 65,537 is a field error as ever", BIG, SIX(WRITE, 0, LARGEST_BLOCK + 1), MOUNTED(0),
+    {"WRITE 1,048,577 is a field error as ever", BIG, SIX(WRITE, 0, LARGEST_BLOCK + 1), MOUNTED(0),
      .sent = LARGEST_BLOCK + 1, .after = MOUNTED(0), .told = FIELD},
     {"WRITE 32,768 into no room", E, SIX(WRITE, 0, 32768), MOUNTED(0), .sent = 32768, .after = MOUNTED(0),
      .told = RESIDUE(TOLD_OVERFLOW, 32768)},
@@ -196,23 +208,27 @@ static const struct edge told_and_kept[] = {
      .room = MODE_BYTES, .after = EMPTY(MOUNTED_LENGTH), .data = TELLS_IT(0)},
     {"MODE SENSE of a fresh drive tells 0", NONE, PAGE(0, PAGE_NONE, MODE_BYTES), EMPTY(0), .room = MODE_BYTES,
      .after = EMPTY(0), .data = TELLS_OTHER(0, 0, 0)},
-    {"READ BLOCK LIMITS is as ever", E, SIX(READ_BLOCK_LIMITS, 0, 0), MOUNTED(0), .room = LIMITS_BYTES,
-     .after = MOUNTED(0), .data = BYTES(0, 1, 0, 0, 0, 1)},
+    {"READ BLOCK LIMITS has nothing of it", E, SIX(READ_BLOCK_LIMITS, 0, 0), MOUNTED(0), .room = LIMITS_BYTES,
+     .after = MOUNTED(0), .data = BYTES(0, 0x10, 0, 0, 0, 1)},
     {"LOAD keeps it", E, SIX(LOAD_UNLOAD, 0, LOAD), MOUNTED(2), .after = MOUNTED(0)},
     {"LOAD keeps 0", E, SIX(LOAD_UNLOAD, 0, LOAD), SET(0, 2), .after = SET(0, 0)},
     {"LOAD keeps 512", E, SIX(LOAD_UNLOAD, 0, LOAD), SET(512, 2), .after = SET(512, 0)},
-    {"LOAD keeps 65,536", E, SIX(LOAD_UNLOAD, 0, LOAD), SET(LARGEST_BLOCK, 2), .after = SET(LARGEST_BLOCK, 0)},
+    {"LOAD keeps 65,536", E, SIX(LOAD_UNLOAD, 0, LOAD), SET(FORMER_LARGEST, 2), .after = SET(FORMER_LARGEST, 0)},
+    {"LOAD keeps 1,048,576", E, SIX(LOAD_UNLOAD, 0, LOAD), SET(LARGEST_BLOCK, 2), .after = SET(LARGEST_BLOCK, 0)},
     {"unload keeps it", E, SIX(LOAD_UNLOAD, 0, 0), MOUNTED(2), .after = EMPTY(MOUNTED_LENGTH)},
     {"unload keeps 0", E, SIX(LOAD_UNLOAD, 0, 0), SET(0, 2), .after = EMPTY(0)},
     {"unload keeps 512", E, SIX(LOAD_UNLOAD, 0, 0), SET(512, 2), .after = EMPTY(512)},
-    {"unload keeps 65,536", E, SIX(LOAD_UNLOAD, 0, 0), SET(LARGEST_BLOCK, 2), .after = EMPTY(LARGEST_BLOCK)},
+    {"unload keeps 65,536", E, SIX(LOAD_UNLOAD, 0, 0), SET(FORMER_LARGEST, 2), .after = EMPTY(FORMER_LARGEST)},
+    {"unload keeps 1,048,576", E, SIX(LOAD_UNLOAD, 0, 0), SET(LARGEST_BLOCK, 2), .after = EMPTY(LARGEST_BLOCK)},
     {"MODE SELECT of 0 sets 0", E, SIX(MODE_SELECT, PF, MODE_BYTES), MOUNTED(1), SELECTS(0, 0, 0), .after = SET(0, 1),
      .carried = MODE_BYTES},
     {"MODE SELECT of 512 sets 512", E, SIX(MODE_SELECT, PF, MODE_BYTES), MOUNTED(1), SELECTS(0, 2, 0),
      .after = SET(512, 1), .carried = MODE_BYTES},
     {"MODE SELECT of 32,768 sets it", E, SIX(MODE_SELECT, PF, MODE_BYTES), SET(0, 1), SELECTS(0, 0x80, 0),
      .after = MOUNTED(1), .carried = MODE_BYTES},
-    {"MODE SELECT of 65,537 keeps it", E, SIX(MODE_SELECT, PF, MODE_BYTES), MOUNTED(1), SELECTS(1, 0, 1),
+    {"MODE SELECT of 65,537 sets 65,537", E, SIX(MODE_SELECT, PF, MODE_BYTES), MOUNTED(1), SELECTS(1, 0, 1),
+     .after = SET(FORMER_LARGEST + 1, 1), .carried = MODE_BYTES},
+    {"MODE SELECT of 1,048,577 keeps it", E, SIX(MODE_SELECT, PF, MODE_BYTES), MOUNTED(1), SELECTS(0x10, 0, 1),
      .after = MOUNTED(1), .told = PLAIN(TOLD_LIST)},
     {"a list of 4 keeps it", E, SIX(MODE_SELECT, PF, MODE_HEADER), MOUNTED(1), LIST(0, 0, 0, 0), .after = MOUNTED(1),
      .carried = MODE_HEADER},
@@ -348,7 +364,7 @@ static void run_life_of_tiles(void)
 
 static void mounted_drives(void)
 {
-    run_mountings();
+    run_mountings(mountings, COUNT(mountings));
     run(not_as_before, COUNT(not_as_before));
     run(variable_as_mounted, COUNT(variable_as_mounted));
     fixed_as_mounted();
