@@ -144,7 +144,8 @@ static void full_cartridge(uint8_t *image, uint32_t size, uint32_t blocks, uint3
     for (uint32_t i = 0; i < blocks; i++)
         set_entry(image, LONGEST, i, (i + 1) * size);
     lay_trailer(image, LONGEST, blocks, 0);
-    expect(LONGEST - TRAILER - (uint64_t)blocks * (ENTRY + size) < ENTRY + size, "a full cartridge of %u", (unsigned)size);
+    expect(LONGEST - TRAILER - (uint64_t)blocks * (ENTRY + size) < ENTRY + size, "a full cartridge of %u",
+           (unsigned)size);
     expect_equal(stormtoggle_view(image, LONGEST, NULL, 0, 0, blocks - 1), FOUND(start, size),
                  "the last block of a full cartridge of %u", (unsigned)size);
     expect_equal(stormtoggle_view(image, LONGEST, NULL, 0, 0, blocks), 0, "past the last block of %u", (unsigned)size);

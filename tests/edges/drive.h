@@ -77,30 +77,31 @@ struct call {
 
 static unsigned long cases_run;
 
-/* Makes a slice of both states, each filled with the same byte. */
-static inline void make_span(struct call *call, enum span span, size_t length, uint8_t fill)
+/* Makes room for a slice in both states. */
+static inline void make_span(struct call *call, enum span span, size_t length)
 {
     call->length[span] = length;
     call->before[span] = malloc(length + 1);
     call->after[span] = malloc(length + 1);
     if (call->before[span] == NULL || call->after[span] == NULL)
         abort();
-    memset(call->before[span], fill, length);
-    memset(call->after[span], fill, length);
 }
 
-static inline void make_equal(struct call *call, enum span span, const uint8_t *bytes)
+/* A slice of these bytes, in both states. */
+static inline void make_equal(struct call *call, enum span span, const uint8_t *bytes, size_t length)
 {
-    memcpy(call->before[span], bytes, call->length[span]);
-    memcpy(call->after[span], bytes, call->length[span]);
+    make_span(call, span, length);
+    memcpy(call->before[span], bytes, length);
+    memcpy(call->after[span], bytes, length);
 }
 
 static inline void make_tape(struct call *call, enum span span, enum cartridge cartridge)
 {
     const struct tape *tape = &tapes[cartridge];
-    make_span(call, span, tape->length, tape->free);
+    make_span(call, span, tape->length);
     if (tape->length == 0)
         return;
+    memset(call->before[span], tape->free, tape->length);
     lay_trailer(call->before[span], tape->length, 0, tape->flags);
     put_objects(call->before[span], tape->length, 0, tape->objects, NULL);
     memcpy(call->after[span], call->before[span], tape->length);
@@ -127,15 +128,14 @@ static inline void make_lent(struct call *call, const struct edge *edge)
     uint8_t record[RECORD_BYTES + 8] = {0}, *pattern = patterned(edge->sent);
     int listed = edge->list.length > 0;
     lay_drive(record, &edge->before);
-    make_span(call, THE_RECORD, (size_t)(RECORD_BYTES - edge->cut), 0);
-    make_equal(call, THE_RECORD, record);
-    make_span(call, THE_COMMAND, edge->command.length, 0);
-    make_equal(call, THE_COMMAND, edge->command.at);
+    make_equal(call, THE_RECORD, record, (size_t)(RECORD_BYTES - edge->cut));
+    make_equal(call, THE_COMMAND, edge->command.at, edge->command.length);
     make_tape(call, PARTITION_0, edge->p0);
     make_tape(call, PARTITION_1, edge->p1);
-    make_span(call, THE_SENT, listed ? edge->list.length : edge->sent, 0);
-    make_equal(call, THE_SENT, listed ? edge->list.at : pattern);
-    make_span(call, THE_RECEIVED, edge->room, 0xa7);
+    make_equal(call, THE_SENT, listed ? edge->list.at : pattern, listed ? edge->list.length : edge->sent);
+    make_span(call, THE_RECEIVED, edge->room);
+    memset(call->before[THE_RECEIVED], 0xa7, edge->room);
+    memset(call->after[THE_RECEIVED], 0xa7, edge->room);
     free(pattern);
 }
 
@@ -192,8 +192,7 @@ static inline void take_over(struct call *call, enum span span, const struct cal
 {
     free(call->before[span]);
     free(call->after[span]);
-    make_span(call, span, left->length[span], 0);
-    make_equal(call, span, left->after[span]);
+    make_equal(call, span, left->after[span], left->length[span]);
 }
 
 static inline uint64_t answer_of(uint8_t *const lent[SPANS], const size_t length[SPANS])

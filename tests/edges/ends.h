@@ -221,7 +221,7 @@ static const struct edge end_of_two[] = {
      .p1 = LEFT_2, .after = TWO(1, 1), .told = PLAIN(TOLD_FIELD)},
 };
 
-/* ---- other partitions: those of 65 bytes have their bound between rooms, those of 80, of 131,136 and of 2,097,216 on one */
+/* ---- other partitions: those of 65 bytes have their bound between rooms, those of 80, 131,136 and 2,097,216 on one */
 
 static const struct edge end_of_others[] = {
     MET("READ of 65 bytes", LEFT_4_OF_65, LEFT_3_OF_65, SIX(READ, 0, 5), AT(1), 5, .room = 5, .after = AT(1)),

@@ -112,16 +112,20 @@ static const struct edge large_reads[] = {
      INTO(LARGEST_BLOCK + 1), .after = MOUNTED(1), .reads = LARGEST_BLOCK},
     {"READ 1,048,577 of 1,048,576 into a byte less", LARGEST_1, SIX(READ, 0, LARGEST_BLOCK + 1), SET(0, 0),
      INTO(LARGEST_BLOCK), .refusal = BY_RECEIVED},
+    {"READ 800,000 of partition 1", E, SIX(READ, 0, PICTURE_BYTES), {1, 2, 1, ATTENTION_NONE, 0, 0, OLD_SENSE},
+     .p1 = PICTURE, INTO(PICTURE_BYTES), .after = {1, 2, 1, ATTENTION_NONE, 1, 0, {0}}, .reads = PICTURE_BYTES},
+    {"READ 800,000 behind others", SMALL_AND_LARGE, SIX(READ, 0, PICTURE_BYTES), MOUNTED(3), INTO(PICTURE_BYTES),
+     .after = MOUNTED(4), .reads = PICTURE_BYTES},
+};
+
+/* The longest request there is. These are run last: a fork is slow where so many bytes were lent. */
+static const struct edge longest_reads[] = {
     {"READ FFFFFFh of 3", E, SIX(READ, 0, COUNT_MOST), SET(0, 0), INTO(COUNT_MOST), .after = SET(0, 1),
      .told = RESIDUE(TOLD_LENGTH, 0xfffffc), .data = BYTES(1, 2, 3)},
     {"READ FFFFFFh of 800,000 with SILI", PICTURE, SIX(READ, SILI, COUNT_MOST), MOUNTED(0), INTO(COUNT_MOST),
      .after = MOUNTED(1), .reads = PICTURE_BYTES},
     {"READ FFFFFFh into a byte less", E, SIX(READ, 0, COUNT_MOST), SET(0, 0), INTO(COUNT_MOST - 1),
      .refusal = BY_RECEIVED},
-    {"READ 800,000 of partition 1", E, SIX(READ, 0, PICTURE_BYTES), {1, 2, 1, ATTENTION_NONE, 0, 0, OLD_SENSE},
-     .p1 = PICTURE, INTO(PICTURE_BYTES), .after = {1, 2, 1, ATTENTION_NONE, 1, 0, {0}}, .reads = PICTURE_BYTES},
-    {"READ 800,000 behind others", SMALL_AND_LARGE, SIX(READ, 0, PICTURE_BYTES), MOUNTED(3), INTO(PICTURE_BYTES),
-     .after = MOUNTED(4), .reads = PICTURE_BYTES},
 };
 
 /* ---- MODE SELECT, MODE SENSE and READ BLOCK LIMITS */
@@ -283,6 +287,7 @@ static void large_blocks(void)
     for (size_t i = 0; i < COUNT(viewed); i++)
         hold_viewed(&viewed[i]);
     large_fixed();
+    run(longest_reads, COUNT(longest_reads));
 }
 
 #endif

@@ -6,7 +6,7 @@
 #include "order.h"
 
 /* MIXED has filemarks at 1 and 5 of 7 objects, so its blocks from 2 to 4 are a stretch; FILES has them at 2 and 4 of 5,
- * PARTED at 1 of 3, PAIR at 2 of 3. FORMER_BEFORE and FORMER_IN are two blocks, and the end of the latter is in the zone. */
+ * PARTED at 1 of 3, PAIR at 2 of 3. FORMER_BEFORE and FORMER_IN are two blocks, and FORMER_IN ends in the zone. */
 
 /* ---- over blocks "for all signs" */
 

@@ -9,7 +9,7 @@
 
 /* ---- bytes that stay as they are for the whole run */
 
-enum { NOISE = 1 << 18 };
+enum { NOISE = LARGEST_BLOCK + (1 << 18) };
 static const uint8_t *noise; /* ends where readable memory ends, on pages that cannot be written */
 
 static inline void make_noise(void)
@@ -50,6 +50,12 @@ static inline int is_ours(const struct tape *tape)
 static inline int is_long(const struct tape *tape)
 {
     return tape->length > 8000;
+}
+
+/* One that has room for the largest block. */
+static inline int is_vast(const struct tape *tape)
+{
+    return tape->length > LARGEST_BLOCK;
 }
 
 static inline int is_protected(const struct tape *tape)

@@ -4,7 +4,7 @@
 
 #include "sender.h"
 
-static uint8_t *reading_record, *read_bytes; /* between canaries: for the comparing reads alone */
+static uint8_t *reading_record, *read_bytes; /* between canaries: for the comparing reads alone, in every life */
 
 static inline void lend_for_reading(void)
 {
@@ -12,10 +12,10 @@ static inline void lend_for_reading(void)
     read_bytes = lend(noise, LARGEST_BLOCK);
 }
 
-static inline void take_reading_back(void)
+static inline void look_at_reading(void)
 {
-    take_back(reading_record, RECORD_BYTES);
-    take_back(read_bytes, LARGEST_BLOCK);
+    look_at_canaries(reading_record, RECORD_BYTES);
+    look_at_canaries(read_bytes, LARGEST_BLOCK);
 }
 
 static inline int number_of(const struct tape *tape)
@@ -63,8 +63,8 @@ static inline int view_agrees(const struct tape *tape, uint64_t k)
     const struct event *object = standing(&tape->history.kept, k);
     uint32_t length = object != NULL ? object->length : 0, start, same;
     struct loan loan = view_loan(tape);
-    uint64_t view = stormtoggle_view(bytes_at(loan, 0), length_at(loan, 0), bytes_at(loan, 1), length_at(loan, 1),
-                                     (uint64_t)number_of(tape), k);
+    uint64_t view = view_service(bytes_at(loan, 0), length_at(loan, 0), bytes_at(loan, 1), length_at(loan, 1),
+                                 (uint64_t)number_of(tape), k);
     happens(VIEWS, 1);
     start = STORMTOGGLE_VIEW_START(view);
     if (STORMTOGGLE_VIEW_LENGTH(view) != length || start > tape->length - length || (length == 0 && start != 0)) {
@@ -209,6 +209,8 @@ static inline int read_meets(uint8_t *record, const struct tape *tape, uint32_t 
     happens(READS, 1);
     happens(happenings[expected], 1);
     happens(FIXED_MET, expected == A_BLOCK && reading == OF_ONE_FIXED);
+    happens(LARGER_MET, length > FORMER_LARGEST);
+    happens(LARGEST_MET, length == LARGEST_BLOCK);
     agrees = met_by(answer, record + STORMTOGGLE_RECORD_SENSE, reading) == expected &&
              STORMTOGGLE_CARRIED(answer) == length && (length == 0 || memcmp(read_bytes, object->bytes, length) == 0);
     if (!agrees)

@@ -6,14 +6,16 @@
 #include "../check.h"
 
 enum happening {
-    LIVES_OF_ONE, LIVES_OF_TWO, LONG_LIVES,
-    BLOCKS_PUT, LARGEST_PUT, FIXED_PUT, PUT_AS_MOUNTED, PARTLY_AS_MOUNTED, FILEMARKS_PUT, ALL_IN_THE_ZONE, PARTLY_PUT,
-    NONE_FITTED, NONE_ASKED, OVERWRITES, CUTS, LONG_CUTS, CUTS_OF_NOTHING, STOPPED_BY_PROTECTION,
+    LIVES_OF_ONE, LIVES_OF_TWO, LONG_LIVES, VAST_LIVES,
+    BLOCKS_PUT, FORMER_PUT, LARGER_PUT, LARGEST_PUT, LARGER_FIXED, FIXED_PUT, PUT_AS_MOUNTED, PARTLY_AS_MOUNTED,
+    FILEMARKS_PUT, ALL_IN_THE_ZONE, PARTLY_PUT, NONE_FITTED, NONE_ASKED, OVERWRITES, CUTS, LONG_CUTS, CUTS_OF_NOTHING,
+    STOPPED_BY_PROTECTION,
     MOUNTS, REMOUNTS, MOUNTS_OVER_ANOTHER, PROTECTION_SET, PROTECTION_CLEARED, ATTENTIONS_TOLD, CODES_NOT_SERVED,
     BAD_FIELDS, ABOVE_N, UNDER_ODD_RECORDS, CHANGED_BY_ODD_RECORDS,
     LONE_FIRST, LONE_SECOND, LONE_BESIDE_ANOTHER, LONE_CHANGED, ANOTHER_CHANGED,
-    VIEWS, READS, BLOCKS_MET, FIXED_MET, ODD_MET, FILEMARKS_MET, ENDS_MET, ENDS_MET_IN_ZONE, FILES_LOCATED,
-    FILES_SPACED, PAST_FILES_READ, PAST_FILES_IN_ZONE, OWN_READINGS, OWN_ABOVE_N, NEVER_BY_4, LISTS_READ_WHOLE,
+    VIEWS, READS, BLOCKS_MET, LARGER_MET, LARGEST_MET, FIXED_MET, ODD_MET, FILEMARKS_MET, ENDS_MET, ENDS_MET_IN_ZONE,
+    FILES_LOCATED, FILES_SPACED, PAST_FILES_READ, PAST_FILES_IN_ZONE, OWN_READINGS, OWN_ABOVE_N, NEVER_BY_4,
+    LISTS_READ_WHOLE,
     CROSSED_SOME, CROSSED_TO_FILEMARK, CROSSINGS_ADDED, CROSSED_ON, CROSSED_BACK, SENSE_DESCRIBED, HAPPENINGS
 };
 
@@ -21,8 +23,12 @@ static const char *const happening_names[HAPPENINGS] = {
     [LIVES_OF_ONE] = "lives of one partition",
     [LIVES_OF_TWO] = "lives of two partitions",
     [LONG_LIVES] = "lives with a long partition",
+    [VAST_LIVES] = "such with room for the largest block",
     [BLOCKS_PUT] = "variable writes that put a block",
-    [LARGEST_PUT] = "writes that put 65,536 bytes a block",
+    [FORMER_PUT] = "writes that put 65,536 bytes a block",
+    [LARGER_PUT] = "writes that put more bytes a block",
+    [LARGEST_PUT] = "such that put 1,048,576 bytes a block",
+    [LARGER_FIXED] = "FIXED writes of more than 65,536 each",
     [FIXED_PUT] = "FIXED writes that put several",
     [PUT_AS_MOUNTED] = "such with the length of a mount",
     [PARTLY_AS_MOUNTED] = "the same, some put and not all",
@@ -55,7 +61,9 @@ static const char *const happening_names[HAPPENINGS] = {
     [VIEWS] = "views compared",
     [READS] = "reads compared",
     [BLOCKS_MET] = "blocks met",
-    [FIXED_MET] = "such of 32,768 by FIXED READ",
+    [LARGER_MET] = "such of more than 65,536 bytes",
+    [LARGEST_MET] = "such of 1,048,576 bytes",
+    [FIXED_MET] = "blocks of 32,768 by FIXED READ",
     [ODD_MET] = "blocks of other lengths by FIXED READ",
     [FILEMARKS_MET] = "filemarks met",
     [ENDS_MET] = "ends of data met before the zone",

@@ -21,11 +21,19 @@ struct moment {
 };
 
 /* The bytes of a partition as they were before an ERASE. */
-static uint8_t image_before[1 << 18];
+static uint8_t image_before[2 * LARGEST_BLOCK];
 
 static inline void set_objects(const struct moment *was, uint32_t objects)
 {
     lay_trailer(was->image, was->length, objects, get_field(was->image, was->length, TRAILER_FLAGS));
+}
+
+/* Leaves so much of the last object as a block had before Q-7. */
+static inline void cut_block(const struct moment *was, uint32_t object)
+{
+    size_t start = end_at(was->image, was->length, object), end = end_at(was->image, was->length, object + 1);
+    if (end - start > FORMER_LARGEST)
+        set_entry(was->image, was->length, object, (uint32_t)(start + FORMER_LARGEST));
 }
 
 /* After a WRITE or WRITE FILEMARKS that acted: so far has the position moved. */
@@ -42,6 +50,8 @@ static inline void spoil_put(const struct moment *was, const uint8_t *record, co
         set_objects(was, now - 1);
     if (FAULT == 6 && put > 0 && command[0] == WRITE)
         was->image[end_at(was->image, was->length, now) - 1] ^= 0x01;
+    if (FAULT == 22 && put > 0 && command[0] == WRITE)
+        cut_block(was, now - 1);
     if (FAULT == 7 && put == 0 && told_by(record + STORMTOGGLE_RECORD_SENSE) == TOLD_OVERFLOW)
         set_objects(was, now);
 }
@@ -132,6 +142,15 @@ static inline uint64_t spoiled_crossed(const struct moment *was, uint64_t answer
     return answer;
 }
 
+/* What a command tells as carried, which is right until here. */
+static inline uint64_t spoiled_carried(uint64_t answer, const uint8_t *command)
+{
+    uint32_t carried = STORMTOGGLE_CARRIED(answer);
+    if (FAULT == 23 && command[0] == READ && !(command[1] & FIXED) && carried > FORMER_LARGEST)
+        return answer - (carried - FORMER_LARGEST);
+    return answer;
+}
+
 /* What a mount or a LOAD UNLOAD leaves as the block length, which is right until here. */
 static inline void spoil_length(uint8_t *record, uint32_t block_length, int holds)
 {
@@ -157,7 +176,7 @@ static inline uint64_t command_service(uint8_t *record, size_t record_len, const
     if (FAULT != 0 && STORMTOGGLE_REFUSAL(answer) == 0 && was.length > 0) {
         int second = record[STORMTOGGLE_RECORD_CURRENT] == 1;
         spoil(&was, answer, record, command, get_field(second ? p1 : p0, second ? p1_len : p0_len, TRAILER_N));
-        answer = spoiled_crossed(&was, answer, record, command);
+        answer = spoiled_carried(spoiled_crossed(&was, answer, record, command), command);
         spoil_length(record, 0, FAULT == 19 && command[0] == LOAD_UNLOAD && record[STORMTOGGLE_RECORD_LOADED] == 0);
         spoil_length(record, MOUNTED_LENGTH, FAULT == 20 && command[0] == LOAD_UNLOAD && command[AT_LOAD] & LOAD &&
                                                  STORMTOGGLE_STATUS(answer) == STORMTOGGLE_GOOD);
@@ -173,6 +192,13 @@ static inline uint64_t mount_service(uint8_t *record, size_t record_len, const u
     spoil_length(record, 0, FAULT == 17 && answer == DONE);
     spoil_length(record, before, FAULT == 18 && answer == DONE && before != 0);
     return answer;
+}
+
+static inline uint64_t view_service(const uint8_t *p0, size_t p0_len, const uint8_t *p1, size_t p1_len,
+                                    uint64_t partition, uint64_t object)
+{
+    uint64_t view = stormtoggle_view(p0, p0_len, p1, p1_len, partition, object);
+    return FAULT == 24 && STORMTOGGLE_VIEW_LENGTH(view) > FORMER_LARGEST ? 0 : view;
 }
 
 static inline uint64_t protect_service(uint8_t *image, size_t image_len, uint64_t on)

@@ -1,5 +1,5 @@
 #!/usr/bin/env bash
-# faults.sh: shows that tests/lives/lives.c can fail: the run of check finds each of twenty-one faults seeded in the
+# faults.sh: shows that tests/lives/lives.c can fail: the run of check finds each of twenty-four faults seeded in the
 # services.
 # LIBRARY names another archive than the one that is built here from the sources.
 set -u
@@ -29,5 +29,8 @@ faults=(
     "an unload leaves block length 0"
     "LOAD sets the block length of a mount"
     "FIXED READ counts a block of another length as read"
+    "a block above 65,536 bytes is put with its first 65,536 alone"
+    "READ carries 65,536 bytes of a block at most"
+    "the view of a block above 65,536 bytes is empty"
 )
 run_with_slips tests/lives/lives.c 200000 "${faults[@]}"

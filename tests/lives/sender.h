@@ -148,7 +148,10 @@ static inline void count_writing(const struct writing *writing, uint32_t put)
 {
     int as_mounted = writing->kind == PUT_BLOCK && !writing->is_variable && latest.by->as_mounted;
     happens(BLOCKS_PUT, put > 0 && writing->is_variable);
+    happens(FORMER_PUT, put > 0 && writing->size == FORMER_LARGEST);
+    happens(LARGER_PUT, put > 0 && writing->size > FORMER_LARGEST);
     happens(LARGEST_PUT, put > 0 && writing->size == LARGEST_BLOCK);
+    happens(LARGER_FIXED, put > 0 && !writing->is_variable && writing->size > FORMER_LARGEST);
     happens(FIXED_PUT, put > 1 && writing->kind == PUT_BLOCK);
     happens(PUT_AS_MOUNTED, as_mounted && put > 1);
     happens(PARTLY_AS_MOUNTED, as_mounted && put > 0 && put < writing->objects);

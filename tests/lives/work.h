@@ -9,7 +9,7 @@
 static struct {
     uint32_t position, objects, block_length;
     uint64_t room; /* at the position; 0 if the partition is unsound */
-    int is_long;
+    int is_long, is_vast;
 } seen;
 
 static inline void look(const struct holder *by, struct loan loan)
@@ -21,6 +21,7 @@ static inline void look(const struct holder *by, struct loan loan)
     seen.objects = 0;
     seen.room = 0;
     seen.is_long = tape != NULL && is_long(tape);
+    seen.is_vast = tape != NULL && is_vast(tape);
     if (tape == NULL || !sound(tape->image, tape->length))
         return;
     seen.objects = get_field(tape->image, tape->length, TRAILER_N);
@@ -32,16 +33,28 @@ static inline void look(const struct holder *by, struct loan loan)
 
 /* ---- the numbers in a command block */
 
+/* Where there is room for more than a few bytes: the largest block, which had 65,536 bytes once, about that, or any. */
+static inline uint64_t long_length(void)
+{
+    uint32_t largest = seen.is_vast ? LARGEST_BLOCK : FORMER_LARGEST;
+    switch (draw(4)) {
+    case 0: return largest;
+    case 1: return near(largest);
+    case 2: return 1 + draw(largest);
+    default: return 1 + draw(seen.is_vast ? LARGEST_BLOCK / 2 : 2 * FORMER_LARGEST);
+    }
+}
+
 /* Lengths that fit, that just fit, and that do not. */
 static inline uint64_t write_length(void)
 {
     switch (draw(14)) {
     case 0: return near(less(seen.room, ENTRY));
     case 1: return draw(seen.room + 8);
-    case 2: return one_in(3) ? 0 : near(LARGEST_BLOCK);
+    case 2: return one_in(3) ? 0 : near(one_in(2) ? LARGEST_BLOCK : FORMER_LARGEST);
     case 3: case 4: return draw(seen.room / 3 + 2);
     case 5: return seen.block_length;
-    case 6: case 7: return !seen.is_long ? 1 + draw(4) : one_in(2) ? LARGEST_BLOCK : 1 + draw(LARGEST_BLOCK);
+    case 6: case 7: return seen.is_long ? long_length() : 1 + draw(4);
     case 8: return one_in(4) ? draw(1 << COUNT_BITS) : 1;
     default: return 1 + draw(16);
     }
@@ -77,8 +90,8 @@ static inline void set_count(uint64_t count)
 static inline void set_mode_select(void)
 {
     static const uint32_t lengths[] = {
-        0, 0, 1, 2, 3, 4, 7, 12, 30, 100, 512, MOUNTED_LENGTH, LARGEST_BLOCK, LARGEST_BLOCK + 1};
-    uint32_t length = seen.is_long && one_in(2) ? LARGEST_BLOCK - draw(3) : lengths[draw(COUNT(lengths))];
+        0, 0, 1, 2, 3, 4, 7, 12, 30, 100, 512, MOUNTED_LENGTH, FORMER_LARGEST, LARGEST_BLOCK, LARGEST_BLOCK + 1};
+    uint32_t length = seen.is_long && one_in(2) ? (uint32_t)long_length() : lengths[draw(COUNT(lengths))];
     uint8_t *block = latest.block.at;
     block[1] = one_in(20) ? 0 : PF;
     block[AT_ALLOCATION] = (uint8_t)(one_in(12) ? draw(256) : one_in(8) ? MODE_HEADER : MODE_BYTES);
@@ -200,8 +213,8 @@ static inline void set_any_block(void)
 
 /* ---- what is sent and received */
 
-enum { RECEIVE_ROOM = 1 << 17 };
-static uint8_t *receive_room; /* between canaries; what is lent of it is its end */
+enum { RECEIVE_ROOM = LARGEST_BLOCK + (1 << 17) };
+static uint8_t *receive_room; /* between canaries, for every life; what is lent of it is its end */
 
 static inline uint64_t bytes_asked(void)
 {
@@ -239,6 +252,16 @@ static inline void likely_command(struct holder *by)
     set_any_block();
     set_data();
     call_command(by, loan);
+}
+
+/* Just so, on the whole cartridge, and with just the bytes that it sends. */
+static inline void plain_command(struct holder *by, struct bytes block, struct slice sent)
+{
+    latest.block = block;
+    latest.sent = sent;
+    latest.received = receive_room;
+    latest.received_length = 0;
+    call_command(by, whole_cartridge());
 }
 
 /* ---- the house services between */
