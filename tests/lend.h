@@ -14,16 +14,23 @@ static inline void repeat_bytes(uint8_t *bytes, size_t period, size_t length)
         memcpy(bytes + done, bytes, done < length - done ? done : length - done);
 }
 
+/* After how many bytes a pattern repeats: a prime, so that those 256 or 65,536 apart are not the same. */
+enum { PERIOD = 251 };
+
 /* Bytes none of which is 0, as a fresh page or a blank would have it. */
-static inline uint8_t *patterned(size_t length)
+static inline void lay_pattern(uint8_t *bytes, size_t length)
 {
-    enum { PERIOD = 251 };
-    uint8_t *bytes = malloc(length + 1);
-    if (bytes == NULL)
-        abort();
     for (size_t i = 0; i < PERIOD && i < length; i++)
         bytes[i] = (uint8_t)(i + 3);
     repeat_bytes(bytes, PERIOD, length);
+}
+
+static inline uint8_t *patterned(size_t length)
+{
+    uint8_t *bytes = malloc(length + 1);
+    if (bytes == NULL)
+        abort();
+    lay_pattern(bytes, length);
     return bytes;
 }
 
@@ -43,9 +50,10 @@ static inline uint8_t *lend(const uint8_t *bytes, size_t length)
 /* Checks the canaries around lent bytes. */
 static inline void look_at_canaries(const uint8_t *lent, size_t length)
 {
+    const uint8_t *room = lent - CANARIES;
     int alive = 1;
     for (size_t i = 0; i < CANARIES; i++)
-        alive = alive && lent[(ptrdiff_t)i - CANARIES] == CANARY && lent[length + i] == CANARY;
+        alive = alive && room[i] == CANARY && lent[length + i] == CANARY;
     expect(alive, "canaries around %zu lent bytes", length);
 }
 

@@ -122,21 +122,30 @@ static inline void lay_told(uint8_t *record, const struct drive *drive, const st
     lay_drive(record, &left);
 }
 
+static inline void make_sent(struct call *call, const struct edge *edge)
+{
+    if (edge->list.length > 0) {
+        make_equal(call, THE_SENT, edge->list.at, edge->list.length);
+        return;
+    }
+    make_span(call, THE_SENT, edge->sent);
+    lay_pattern(call->before[THE_SENT], edge->sent);
+    lay_pattern(call->after[THE_SENT], edge->sent);
+}
+
 /* The slices as they are lent; what is left is the same until something is laid over it. */
 static inline void make_lent(struct call *call, const struct edge *edge)
 {
-    uint8_t record[RECORD_BYTES + 8] = {0}, *pattern = patterned(edge->sent);
-    int listed = edge->list.length > 0;
+    uint8_t record[RECORD_BYTES + 8] = {0};
     lay_drive(record, &edge->before);
     make_equal(call, THE_RECORD, record, (size_t)(RECORD_BYTES - edge->cut));
     make_equal(call, THE_COMMAND, edge->command.at, edge->command.length);
     make_tape(call, PARTITION_0, edge->p0);
     make_tape(call, PARTITION_1, edge->p1);
-    make_equal(call, THE_SENT, listed ? edge->list.at : pattern, listed ? edge->list.length : edge->sent);
+    make_sent(call, edge);
     make_span(call, THE_RECEIVED, edge->room);
     memset(call->before[THE_RECEIVED], 0xa7, edge->room);
     memset(call->after[THE_RECEIVED], 0xa7, edge->room);
-    free(pattern);
 }
 
 /* What the command makes of the current partition. */
@@ -187,12 +196,15 @@ static inline struct call call_of(const struct edge *edge)
     return call;
 }
 
-/* A slice as another call must leave it, in the place of the one that was made. */
-static inline void take_over(struct call *call, enum span span, const struct call *left)
+/* A slice as another call must leave it, in the place of the one that was made; the other call has none then. */
+static inline void take_over(struct call *call, enum span span, struct call *left)
 {
     free(call->before[span]);
     free(call->after[span]);
+    free(left->before[span]);
     make_equal(call, span, left->after[span], left->length[span]);
+    free(left->after[span]);
+    left->before[span] = left->after[span] = NULL;
 }
 
 static inline uint64_t answer_of(uint8_t *const lent[SPANS], const size_t length[SPANS])

@@ -22,7 +22,8 @@
 #define NO_FIELD_ERROR(name, size)                                                                                  \
     {"WRITE " name " of a protected one", GUARDED, SIX(WRITE, 0, size), AT(0), .sent = 5, .after = AT(0),           \
      .told = PLAIN(TOLD_PROTECTED)},                                                                                \
-    {"WRITE " name " with a byte less sent", E, SIX(WRITE, 0, size), AT(0), .sent = (size) - 1, .refusal = BY_SENT}, \
+    {"WRITE " name " with a byte less sent", E, SIX(WRITE, 0, size), SET(0, 0), .sent = (size) - 1,                 \
+     .refusal = BY_SENT},                                                                                           \
     {"WRITE " name " with nothing sent", E, SIX(WRITE, 0, size), AT(2), .refusal = BY_SENT},                        \
     {"WRITE " name " with nothing loaded", NONE, SIX(WRITE, 0, size), UNLOADED, .after = UNLOADED,                  \
      .told = NOT_LOADED},                                                                                           \
@@ -38,7 +39,7 @@
 
 static const struct edge large_writes[] = {
     WRITES("65,537", FORMER_LARGEST + 1, "b65537", FOR_65537, SHORT_OF_65537, FORMER, AT(0), AT(1)),
-    WRITES("800,000", PICTURE_BYTES, "b800000", FOR_PICTURE, SHORT_OF_PICTURE, BIG, AT(0), AT(1)),
+    WRITES("800,000", PICTURE_BYTES, "b800000", FOR_PICTURE, SHORT_OF_PICTURE, BIG, MOUNTED(0), MOUNTED(1)),
     WRITES("1,048,576", LARGEST_BLOCK, "B", FOR_LARGEST, SHORT_OF_LARGEST, BIG, SET(0, 0), SET(0, 1)),
     NO_FIELD_ERROR("65,537", FORMER_LARGEST + 1),
     NO_FIELD_ERROR("1,048,576", LARGEST_BLOCK),
@@ -47,8 +48,6 @@ static const struct edge large_writes[] = {
     FIELD_ERROR("FFFFFFh", COUNT_MOST),
     {"WRITE 1,048,577 with a byte less sent", E, SIX(WRITE, 0, LARGEST_BLOCK + 1), MOUNTED(0), .sent = LARGEST_BLOCK,
      .after = MOUNTED(0), .told = FIELD},
-    {"WRITE 1,048,577, all sent and room to spare", FOR_2_LARGEST, SIX(WRITE, 0, LARGEST_BLOCK + 1), SET(0, 0),
-     .sent = LARGEST_BLOCK + 1, .after = SET(0, 0), .told = FIELD},
     {"WRITE 1,048,577 under an attention", E, SIX(WRITE, 0, LARGEST_BLOCK + 1), WAITING(ATTENTION_MOUNTED, 0),
      .after = AT(0), .told = PLAIN(TOLD_MOUNTED)},
     {"WRITE 800,000 behind the largest block", BIG, SIX(WRITE, 0, PICTURE_BYTES), MOUNTED(1), .sent = PICTURE_BYTES,
@@ -104,7 +103,7 @@ static const struct edge large_reads[] = {
     {"READ 1,048,576 of a filemark", E, SIX(READ, 0, LARGEST_BLOCK), MOUNTED(1), INTO(LARGEST_BLOCK),
      .after = MOUNTED(2), .told = RESIDUE(TOLD_FILEMARK, LARGEST_BLOCK)},
     /* The request alone says what is needed, and no request is a field error. */
-    {"READ 1,048,576 into a byte less", E, SIX(READ, 0, LARGEST_BLOCK), AT(0), INTO(LARGEST_BLOCK - 1),
+    {"READ 1,048,576 into a byte less", E, SIX(READ, 0, LARGEST_BLOCK), MOUNTED(0), INTO(LARGEST_BLOCK - 1),
      .refusal = BY_RECEIVED},
     {"READ 1,048,577 of 1,048,576", LARGEST_1, SIX(READ, 0, LARGEST_BLOCK + 1), SET(0, 0), INTO(LARGEST_BLOCK + 1),
      .after = SET(0, 1), .told = RESIDUE(TOLD_LENGTH, 1), .reads = LARGEST_BLOCK},

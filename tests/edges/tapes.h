@@ -104,7 +104,6 @@ static const struct tape {
 /* Those of the source, or else rising ones, the first by its number. */
 static inline void put_bytes(uint8_t *at, size_t count, size_t first, const uint8_t *source)
 {
-    enum { PERIOD = 256 };
     if (source != NULL) {
         memcpy(at, source, count);
         return;

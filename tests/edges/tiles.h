@@ -89,7 +89,7 @@ static const struct edge fixed_reads[] = {
      .after = MOUNTED(1), .told = RESIDUE(TOLD_LENGTH, 2)},
     {"FIXED READ: 1 of a block of 65,536", FORMER, SIX(READ, FIXED, 1), MOUNTED(0), .room = BYTES_OF(1),
      .after = MOUNTED(1), .told = RESIDUE(TOLD_LENGTH, 1)},
-    {"FIXED READ: 1 of a block of 1,048,576", BIG, SIX(READ, FIXED, 1), MOUNTED(0), .room = BYTES_OF(1),
+    {"FIXED READ: 1 of a block of 1,048,576", LARGEST_1, SIX(READ, FIXED, 1), MOUNTED(0), .room = BYTES_OF(1),
      .after = MOUNTED(1), .told = RESIDUE(TOLD_LENGTH, 1)},
     {"FIXED READ: 3, the second a block of 3", TILES_APART, SIX(READ, FIXED, 3), MOUNTED(0), .room = BYTES_OF(3),
      .after = MOUNTED(2), .told = RESIDUE(TOLD_LENGTH, 2), .reads = BYTES_OF(1)},
