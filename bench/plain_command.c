@@ -143,7 +143,7 @@ uint64_t plain_command(uint8_t *r, size_t r_length, const uint8_t *c, size_t c_l
     case READ_BLOCK_LIMITS:
         if (received_length < LIMITS_BYTES)
             return refused(BY_RECEIVED);
-        memcpy(received, "\0\1\0\0\0\1", LIMITS_BYTES);
+        memcpy(received, "\0\x10\0\0\0\1", LIMITS_BYTES);
         return good(r, LIMITS_BYTES);
     case READ_POSITION:
         if (c[1] != FORM_SHORT && c[1] != FORM_LONG)

@@ -100,9 +100,9 @@ static inline const uint8_t *view(struct drive *d, int partition, uint32_t objec
 /* ---- the SCSI commands */
 
 enum {
-    TEST_UNIT_READY = 0x00, REWIND = 0x01, REQUEST_SENSE = 0x03, READ = 0x08, WRITE = 0x0a, WRITE_FILEMARKS = 0x10,
-    SPACE = 0x11, MODE_SELECT = 0x15, MODE_SENSE = 0x1a, LOAD_UNLOAD = 0x1b, LOCATE = 0x2b, READ_POSITION = 0x34,
-    SPACE_16 = 0x91, LOCATE_16 = 0x92
+    TEST_UNIT_READY = 0x00, REWIND = 0x01, REQUEST_SENSE = 0x03, READ_BLOCK_LIMITS = 0x05, READ = 0x08, WRITE = 0x0a,
+    WRITE_FILEMARKS = 0x10, SPACE = 0x11, MODE_SELECT = 0x15, MODE_SENSE = 0x1a, LOAD_UNLOAD = 0x1b, LOCATE = 0x2b,
+    READ_POSITION = 0x34, SPACE_16 = 0x91, LOCATE_16 = 0x92
 };
 
 /* Command blocks have six bytes, LOCATE's and READ POSITION's ten; some come in sixteen as well. */
@@ -168,6 +168,22 @@ static inline void rewind_tape(struct drive *d)
     const uint8_t command[SIX] = {REWIND};
     ask(d, "REWIND");
     carry_out(d, command, sizeof command, NO_DATA);
+}
+
+/* How long a block may be: the most in three bytes behind the first, then the least in two. */
+struct limits {
+    uint32_t least, most;
+};
+
+static inline struct limits read_block_limits(struct drive *d)
+{
+    uint8_t data[6] = {0};
+    const uint8_t command[SIX] = {READ_BLOCK_LIMITS};
+    ask(d, "READ BLOCK LIMITS");
+    carry_out(d, command, sizeof command, RECEIVE(data, sizeof data));
+    struct limits told = {.least = number_at(data + 2) & 0xffff, .most = number_at(data) & 0xffffff};
+    printf("    it tells: a block has %u to %u bytes\n", (unsigned)told.least, (unsigned)told.most);
+    return told;
 }
 
 static inline void read_block(struct drive *d, uint8_t *bytes, uint32_t length)

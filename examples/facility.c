@@ -1,13 +1,14 @@
 /* facility.c: a facility's day on cartridges in mapped files, from power-on to unload; its calls are in calls.h.
  *
- *   facility TILES INDEX TIER
+ *   facility TILES INDEX TIER CAMERA
  *
  * The files are made anew. TILES is partition 0 of a cartridge: cycles of tiles, a filemark after each. INDEX is its
- * partition 1, and is document 01's example E in the end. TIER is a second cartridge, of one partition. What is not as
- * it must be ends the day with a line that says so (expect.h).
+ * partition 1, and is document 01's example E in the end. TIER is a second cartridge and CAMERA a third, each of one
+ * partition. What is not as it must be ends the day with a line that says so (expect.h).
  */
 #define _POSIX_C_SOURCE 200809L
 #include "calls.h"
+#include "camera.h"
 #include "decode.h"
 #include "expect.h"
 #include "stormtoggle.h"
@@ -351,12 +352,12 @@ static struct partition map_partition(const char *name, size_t length)
 
 int main(int count, char **words)
 {
-    if (count != 4) {
-        fprintf(stderr, "usage: facility TILES INDEX TIER\n");
+    if (count != 5) {
+        fprintf(stderr, "usage: facility TILES INDEX TIER CAMERA\n");
         return EXIT_FAILURE;
     }
     const struct partition files[] = {map_partition(words[1], TILES_LENGTH), map_partition(words[2], INDEX_LENGTH),
-                                      map_partition(words[3], TIER_LENGTH)};
+                                      map_partition(words[3], TIER_LENGTH), map_partition(words[4], CAMERA_LENGTH)};
     struct drive d = {.tape = {files[TILES], files[INDEX]}};
     log_heading();
     open_the_day(&d);
@@ -371,6 +372,7 @@ int main(int count, char **words)
     close_the_day(&d);
     write_a_tier(&d, files[2], TILE);
     write_variable_blocks(&d);
+    serve_the_camera(&d, files[3]);
     for (size_t i = 0; i < sizeof files / sizeof *files; i++)
         if (msync(files[i].image, files[i].length, MS_SYNC) != 0 || munmap(files[i].image, files[i].length) != 0)
             stop(words[1 + i]);

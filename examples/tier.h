@@ -12,11 +12,12 @@
 enum { TIER_TILE = STORMTOGGLE_MOUNTED_BLOCK_LENGTH, TIER_TILES = 4, TIER_LENGTH = (TIER_TILES + 2) * TIER_TILE };
 enum { TIER_CYCLE = 5 };
 
-/* The tiles of a day differ, so that one read in place of another shows. */
+/* The tiles of a day differ, so that one read in place of another shows; and so do the parts of a tile, of any length
+ * that a block may have. */
 static inline void fill_tile(uint8_t *tile, unsigned length, unsigned cycle, unsigned number)
 {
     for (unsigned i = 0; i < length; i++)
-        tile[i] = (uint8_t)(i + i / 256 + 16 * cycle + number);
+        tile[i] = (uint8_t)(i + i / 256 + i / 65536 + 16 * cycle + number);
 }
 
 /* Operators forget MODE SELECT: here none is sent. The drive has the length that was set for the last cartridge, and
