@@ -25,7 +25,7 @@ use Rattle.image.proofs.Facts.{Sound}
 use Rattle.image.proofs.Objects.{end-bytes}
 use Rattle.changes.specs.Changes.{occur, occurs}
 use Rattle.changes.proofs.Obeys.{Admits, Obeys, obeys, put-next}
-use Rattle.sense.specs.Sense.{senseBytes, emptySense}
+use Rattle.sense.specs.Sense.{illegalRequest, invalidField, unqualified, plainly, senseBytes, emptySense}
 use Rattle.record.specs.declared.drive.Drive.{Drive}
 use Rattle.record.specs.Record.{noAttention, decodeOf, encodeOf, withSense}
 use Rattle.codes.specs.declared.operation.Operation.the-variants.{Write}
@@ -33,11 +33,11 @@ use Rattle.codes.specs.Codes.{codeOf, operationOf, tooShort, masksHold}
 use Rattle.codes.specs.Fields.{fixedOf, transferOf}
 use Rattle.commands.specs.Act.{Seen, Deed, good, checked, carrying, at, warned, overflowed, goesDown, offered, wrote, writing, act, eventsOf}
 use Rattle.commands.specs.Tests.{fieldError, fieldFault, bytesAsked, taken, replyLength, needed, tests}
-use Rattle.commands.specs.Step.{statusOf, keptOf, acted}
+use Rattle.commands.specs.Step.{statusOf, keptOf, stopped, acted}
 use Rattle.commands.specs.Call.{Lent, lent, Result, result, partition, looksAt, seenOf, seen, laidOut, applied, written, commandTests, commandCall}
 use Rattle.commands.proofs.Ends.{stoppedAt, call-stops, call-acts}
 use Rattle.commands.proofs.Faultless.{Well, fault-free, Inside, inside, seen-there}
-use Rattle.larger.specs.Larger.{currentOf, Writes, blockSent, withBlock, blockPut}
+use Rattle.larger.specs.Blocks.{currentOf, Writes, blockSent, withBlock, blockPut, onlyTells}
 
 -- ---- one block that is offered goes down exactly if it fits
 
@@ -69,6 +69,10 @@ module _ (n : ℕ) (rec : List ℕ) (x : Lent) (w : Writes n rec x) where
   unfolding first commandTests tests fieldError
   stops h =
       rw (w .is, w .whole, w .mounted .no-fault, eq-eqb (decodeOf rec .attention) noAttention (w .mounted .no-attention), w .masks, w .variable, w .asks, lt-ltb largestBlock n h) refl
+
+  pub too-long : largestBlock < n → commandCall rec x ≡ onlyTells rec x (plainly illegalRequest invalidField unqualified)
+  unfolding stopped
+  too-long h = call-stops rec x fieldFault (stops h)
 
   lets : n ≤ largestBlock → first (commandTests rec x) ≡ none
   unfolding first commandTests tests fieldError taken needed replyLength bytesAsked seenOf
@@ -116,6 +120,14 @@ module _ (n : ℕ) (rec : List ℕ) (x : Lent) (w : Writes n rec x) where
         let e : there ≡ checked (at (decodeOf rec) (decodeOf rec .position + 0)) (overflowed (pos n)) = rw (w .variable, w .asks, some-bytes, goes false f) (ap (λ (z : ℤ). checked (at (decodeOf rec) (decodeOf rec .position + 0)) (overflowed z)) (all-left n)) in
         let z : decodeOf rec .position + 0 ≡ decodeOf rec .position = omega arith in
         e ∙ ap (λ (k : ℕ). checked (at (decodeOf rec) k) (overflowed (pos n))) z
+
+    pub not-put : n ≤ largestBlock → fits (currentOf rec x) (decodeOf rec .position) n ≡ false → commandCall rec x ≡ onlyTells rec x (overflowed (pos n))
+    unfolding applied acted laidOut looksAt eventsOf putFrom occurs statusOf keptOf withSense
+    not-put most f = call-acts rec x (lets most) ∙ rw (w .is, sees, overflows f, goes false f, over-nil (x .received) 0) (by (eqb (decodeOf rec .current) 1))
+      where
+        by : (c : Bool) → onlyTells rec (lent (x .cmd) (cond c (x .part0) (x .part0)) (cond c (x .part1) (x .part1)) (x .sent) (x .received)) (overflowed (pos n)) ≡ onlyTells rec x (overflowed (pos n))
+        by true = refl
+        by false = refl
 
     module _ (most : n ≤ largestBlock) (f : fits (currentOf rec x) (decodeOf rec .position) n ≡ true) where
       admitted : Admits (put (decodeOf rec .position) (blockSent n x)) (currentOf rec x)

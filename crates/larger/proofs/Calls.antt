@@ -25,12 +25,22 @@ use Rattle.commands.specs.Tests.{fieldError, tests}
 use Rattle.commands.specs.Step.{acted, step}
 use Rattle.commands.specs.Call.{Lent, Result, seen, inserted, stepOf, called, commandCall}
 use Rattle.commands.proofs.Classes.{named}
-use Rattle.larger.specs.Larger.{largestBefore, soundBy, wellRecordBy, insertedBy, fieldErrorBy, testsBy, listRightBy, selectingBy, actBy, callBy, speaksAbove, Within}
+use Rattle.history.specs.History.{cartridge}
+use Rattle.lengths.proofs.Calls.{unset}
+use Rattle.larger.specs.Rules.{largestBefore, soundBy, wellRecordBy, insertedBy, fieldErrorBy, testsBy, listRightBy, selectingBy, actBy, callBy, NoneAbove, speaksAbove}
 use Rattle.larger.proofs.Images.{sound-so, same-sound}
 
-none-of : (a b : Bool) → a || b ≡ false → (a ≡ false) × (b ≡ false)
-none-of false b h = (refl, h)
-none-of true b h = absurd (let z : _≡_ {A = ℕ} 0 1 = cc in omega arith)
+-- ---- what a command speaks of
+
+pub not-spoken : (m : ℕ) (cmd sent : List ℕ) → speaksAbove m cmd sent ≡ false
+    → (among (ReadBlockLimits ∷ []) (operationOf (codeOf cmd)) ≡ false)
+    × (among (Write ∷ []) (operationOf (codeOf cmd)) && not (fixedOf cmd) && ltb m (transferOf cmd) ≡ false)
+    × (among (ModeSelect ∷ []) (operationOf (codeOf cmd)) && eqb (allocationOf cmd) wholeLength && ltb m (newLength sent) ≡ false)
+unfolding speaksAbove
+not-spoken m cmd sent h =
+    let a = unset (among (ReadBlockLimits ∷ []) (operationOf (codeOf cmd)) || (among (Write ∷ []) (operationOf (codeOf cmd)) && not (fixedOf cmd) && ltb m (transferOf cmd))) _ h in
+    let b = unset (among (ReadBlockLimits ∷ []) (operationOf (codeOf cmd))) _ (a .0) in
+    (b .0, b .1, a .1)
 
 -- ---- by 1,048,576 the call is the one that demand 2 defines
 
@@ -44,7 +54,7 @@ moved true false true c = refl
 moved true false false c = refl
 moved false a b c = refl
 
-record-so : (rec : List ℕ) → wellRecordBy largestBlock rec ≡ wellRecord rec
+pub record-so : (rec : List ℕ) → wellRecordBy largestBlock rec ≡ wellRecord rec
 unfolding wellRecordBy wellRecord wellFormed emptyHanded placed
 record-so rec = moved (eqb (length rec) recordLength) (attentionKnown (decodeOf rec .attention)) (leb (decodeOf rec .«block_length») largestBlock) _
 
@@ -81,6 +91,11 @@ call-so rec x =
     let d : Drive = decodeOf rec in
     rw (record-so rec, inserted-so d (x .part0) (x .part1), fields-so o d (x .cmd), acts-so o d (x .cmd) (x .sent) (seen o d x)) refl
 
+-- a block length of at most m is one by both rules
+pub same-record : (m : ℕ) → m ≤ largestBlock → (rec : List ℕ) → decodeOf rec .«block_length» ≤ m → wellRecordBy m rec ≡ wellRecordBy largestBlock rec
+unfolding wellRecordBy
+same-record m l rec h = rw (le-leb (decodeOf rec .«block_length») m h, le-leb (decodeOf rec .«block_length») largestBlock (omega arith)) refl
+
 -- ---- what the call has to do with the largest block: four things; where they are the same, it is
 
 module _ (rec : List ℕ) (x : Lent) where
@@ -97,24 +112,16 @@ module _ (rec : List ℕ) (x : Lent) where
 
   -- ---- and they are the same for a call that has to do with no larger block
 
-  module _ (m : ℕ) (l : m ≤ largestBlock) (w : Within m rec x) where
-    same-record : wellRecordBy m rec ≡ wellRecordBy largestBlock rec
-    unfolding wellRecordBy
-    same-record = rw (le-leb (d .«block_length») m (w .length-set), le-leb (d .«block_length») largestBlock (omega (arith, w .length-set))) refl
-
+  module _ (m : ℕ) (l : m ≤ largestBlock) (w : NoneAbove m rec (cartridge (x .part0) (x .part1))) (quiet : speaksAbove m (x .cmd) (x .sent) ≡ false) where
     same-inserted : insertedBy m d (x .part0) (x .part1) ≡ insertedBy largestBlock d (x .part0) (x .part1)
     unfolding insertedBy
     same-inserted = rw (same-sound m (x .part0) l (w .part0), same-sound m (x .part1) l (w .part1)) refl
 
     -- what the command speaks of
-    limits : among (ReadBlockLimits ∷ []) o ≡ false
-    limits = none-of _ _ (none-of _ _ (w .command) .0) .0
-
-    writes : among (Write ∷ []) o && not (fixedOf (x .cmd)) && ltb m (transferOf (x .cmd)) ≡ false
-    writes = none-of (among (ReadBlockLimits ∷ []) o) _ (none-of _ _ (w .command) .0) .1
-
-    selects : among (ModeSelect ∷ []) o && eqb (allocationOf (x .cmd)) wholeLength && ltb m (newLength (x .sent)) ≡ false
-    selects = none-of (among (ReadBlockLimits ∷ []) o || (among (Write ∷ []) o && not (fixedOf (x .cmd)) && ltb m (transferOf (x .cmd)))) _ (w .command) .1
+    spoken : (among (ReadBlockLimits ∷ []) o ≡ false)
+        × (among (Write ∷ []) o && not (fixedOf (x .cmd)) && ltb m (transferOf (x .cmd)) ≡ false)
+        × (among (ModeSelect ∷ []) o && eqb (allocationOf (x .cmd)) wholeLength && ltb m (newLength (x .sent)) ≡ false)
+    spoken = not-spoken m (x .cmd) (x .sent) quiet
 
     -- at most m is at most the largest
     same-above : (k : ℕ) → ltb m k ≡ false → ltb m k ≡ ltb largestBlock k
@@ -125,7 +132,7 @@ module _ (rec : List ℕ) (x : Lent) where
 
     same-fields : fieldErrorBy m o d (x .cmd) ≡ fieldErrorBy largestBlock o d (x .cmd)
     unfolding fieldErrorBy
-    same-fields = go (among (Write ∷ []) o && not (fixedOf (x .cmd))) writes
+    same-fields = go (among (Write ∷ []) o && not (fixedOf (x .cmd))) (spoken .1)
       where
         go : (t : Bool) → t && ltb m (transferOf (x .cmd)) ≡ false → cond t (ltb m (transferOf (x .cmd))) (fieldError o d (x .cmd)) ≡ cond t (ltb largestBlock (transferOf (x .cmd))) (fieldError o d (x .cmd))
         go true e = same-above (transferOf (x .cmd)) e
@@ -133,7 +140,7 @@ module _ (rec : List ℕ) (x : Lent) where
 
     same-list : among (ModeSelect ∷ []) o ≡ true → listRightBy m (allocationOf (x .cmd)) (x .sent) ≡ listRightBy largestBlock (allocationOf (x .cmd)) (x .sent)
     unfolding listRightBy
-    same-list s = go (eqb (allocationOf (x .cmd)) wholeLength) (rw s at selects)
+    same-list s = go (eqb (allocationOf (x .cmd)) wholeLength) (rw s at (spoken .2))
       where
         go : (t : Bool) → t && ltb m (newLength (x .sent)) ≡ false
             → headerRight (allocationOf (x .cmd)) (x .sent) && cond t (eqb (be 4 (x .sent) 4) 0 && leb (newLength (x .sent)) m) (eqb (allocationOf (x .cmd)) headerLength)
@@ -143,7 +150,7 @@ module _ (rec : List ℕ) (x : Lent) where
 
     same-act : actBy m o d (x .cmd) (x .sent) (seen o d x) ≡ actBy largestBlock o d (x .cmd) (x .sent) (seen o d x)
     unfolding actBy selectingBy
-    same-act = rw limits (go (among (ModeSelect ∷ []) o) same-list)
+    same-act = rw (spoken .0) (go (among (ModeSelect ∷ []) o) same-list)
       where
         A : Deed
         A = act o d (x .cmd) (x .sent) (seen o d x)
@@ -153,10 +160,10 @@ module _ (rec : List ℕ) (x : Lent) where
         go true e = rw (e refl) refl
         go false e = refl
 
-    as-by : callBy m rec x ≡ callBy largestBlock rec x
-    as-by = same-call m largestBlock same-record same-inserted same-fields same-act
+    pub as-by : callBy m rec x ≡ callBy largestBlock rec x
+    as-by = same-call m largestBlock (same-record m l rec (w .length-set)) same-inserted same-fields same-act
 
 -- ---- Q-7 beside 01: whoever has to do with no block above 65,536 bytes sees no change
 
-pub as-before : (rec : List ℕ) (x : Lent) → Within largestBefore rec x → callBy largestBefore rec x ≡ commandCall rec x
-as-before rec x w = as-by rec x largestBefore (omega arith) w ∙ call-so rec x
+pub as-before : (rec : List ℕ) (x : Lent) → NoneAbove largestBefore rec (cartridge (x .part0) (x .part1)) → speaksAbove largestBefore (x .cmd) (x .sent) ≡ false → callBy largestBefore rec x ≡ commandCall rec x
+as-before rec x w q = as-by rec x largestBefore (omega arith) w q ∙ call-so rec x

@@ -11,14 +11,15 @@ use borrow.Author.Tests.{le-leb, lt-ltb, eq-eqb, leb-true}
 use lib.Dec.{eqb, leb, ltb}
 use lib.ListN.{length, getElem?}
 use lib.Seq.{slice}
-use Rattle.objects.specs.Object.{Object, block, largestBlock}
+use Rattle.objects.specs.Object.{Object, filemark, block, dataOf, largestBlock}
 use Rattle.objects.specs.Room.{entryLength, trailerLength}
 use Rattle.image.specs.Image.{flagBits, count, flags, directory, size, rightLength, entry, topBit, low31, endAt, follows, ordered, sound, objectAt, objects}
 use Rattle.image.proofs.Facts.{Sound, sound-parts, sound-of, ordered-at, follows-size, follows-same}
 use Rattle.image.proofs.Objects.{object-there}
 use Rattle.image.proofs.Tests.{both}
 use Rattle.history.proofs.ReadBack.{promised}
-use Rattle.larger.specs.Larger.{largestBefore, followsBy, orderedBy, soundBy, held, NoneAbove}
+use Rattle.larger.specs.Rules.{largestBefore, followsBy, orderedBy, soundBy, held, noneAbove}
+use Rattle.larger.proofs.Above.{none-at, none-by}
 
 -- ---- by 1,048,576 it is the rule of image/specs
 
@@ -79,7 +80,7 @@ sound-more m n s l h = let q = parts-by s m h in of-parts s n (q .0) (ordered-mo
 -- ---- by less, where no block has more
 
 module _ (m : ℕ) (s : List ℕ) (k : Sound s) where
-  follows-less : (i : ℕ) → i < count s → NoneAbove m (objects s) → followsBy m (endAt s i) (entry s i) ≡ true
+  follows-less : (i : ℕ) → i < count s → noneAbove m (objects s) ≡ true → followsBy m (endAt s i) (entry s i) ≡ true
   unfolding followsBy
   follows-less i h a = go (topBit (entry s i)) refl (ordered-at s i (count s) h (k .in-order))
     where
@@ -88,28 +89,32 @@ module _ (m : ℕ) (s : List ℕ) (k : Sound s) where
       go false t f =
           let o : objectAt s i ≡ block (slice (endAt s i) (endAt s (suc i)) s) = unfold objectAt in rw t refl in
           let e : getElem? (objects s) i ≡ some (block (slice (endAt s i) (endAt s (suc i)) s)) = object-there s i h ∙ ap some o in
-          let l : low31 (entry s i) ≤ endAt s i + m = omega (arith, promised s k i _ e .2, a i _ e) in
+          let l : low31 (entry s i) ≤ endAt s i + m = omega (arith, promised s k i _ e .2, none-at m (objects s) i _ a e) in
           rw (lt-ltb (endAt s i) (low31 (entry s i)) (follows-size (endAt s i) (entry s i) f t .0), le-leb (low31 (entry s i)) (endAt s i + m) l) refl
 
-  ordered-less : NoneAbove m (objects s) → (n : ℕ) → n ≤ count s → orderedBy m s n ≡ true
+  ordered-less : noneAbove m (objects s) ≡ true → (n : ℕ) → n ≤ count s → orderedBy m s n ≡ true
   unfolding orderedBy
   ordered-less a zero h = refl
   ordered-less a (suc i) h = rw (ordered-less a i (omega arith), follows-less i h a) refl
 
-  sound-less : NoneAbove m (objects s) → soundBy m s ≡ true
+  sound-less : noneAbove m (objects s) ≡ true → soundBy m s ≡ true
   sound-less a = let q = parts-by s largestBlock (sound-so s ∙ sound-of s k) in of-parts s m (q .0) (ordered-less a (count s) (omega arith)) (q .2)
 
   -- and what is sound by m has no block that is longer
-  small-by : soundBy m s ≡ true → NoneAbove m (objects s)
-  small-by h i bs e =
-      let q = promised s k i bs e in
-      let f = ordered-by m s i (count s) (q .0) (parts-by s m h .1) in
-      let g : ltb (endAt s i) (low31 (entry s i)) && leb (low31 (entry s i)) (endAt s i + m) ≡ true = unfold followsBy in rw (q .1) at f in
-      let b = both (ltb (endAt s i) (low31 (entry s i))) (leb (low31 (entry s i)) (endAt s i + m)) g in
-      omega (arith, leb-true (low31 (entry s i)) (endAt s i + m) (b .1), q .2)
+  small-by : soundBy m s ≡ true → noneAbove m (objects s) ≡ true
+  small-by h = none-by m (objects s) go
+    where
+      go : (i : ℕ) (x : Object) → getElem? (objects s) i ≡ some x → length (dataOf x) ≤ m
+      go i filemark e = omega arith
+      go i (block bs) e =
+          let q = promised s k i bs e in
+          let f = ordered-by m s i (count s) (q .0) (parts-by s m h .1) in
+          let g : ltb (endAt s i) (low31 (entry s i)) && leb (low31 (entry s i)) (endAt s i + m) ≡ true = unfold followsBy in rw (q .1) at f in
+          let b = both (ltb (endAt s i) (low31 (entry s i))) (leb (low31 (entry s i)) (endAt s i + m)) g in
+          omega (arith, leb-true (low31 (entry s i)) (endAt s i + m) (b .1), q .2)
 
 -- so, where no block has more, both rules say the same of any bytes
-pub same-sound : (m : ℕ) (s : List ℕ) → m ≤ largestBlock → NoneAbove m (objects s) → soundBy m s ≡ soundBy largestBlock s
+pub same-sound : (m : ℕ) (s : List ℕ) → m ≤ largestBlock → noneAbove m (objects s) ≡ true → soundBy m s ≡ soundBy largestBlock s
 same-sound m s l a = go (soundBy m s) (soundBy largestBlock s) refl refl
   where
     go : (t u : Bool) → soundBy m s ≡ t → soundBy largestBlock s ≡ u → t ≡ u
@@ -129,13 +134,13 @@ older-stay s xs h = go (soundBy largestBefore s) refl h
     go true e q = (older s e, cc)
     go false e q = absurd (let z : _≡_ {A = ℕ} 0 1 = cc in omega arith)
 
-pub stayed-so : (s : List ℕ) (xs : List Object) → sound s ≡ true → objects s ≡ xs → NoneAbove largestBefore xs → held largestBefore s ≡ some xs
-stayed-so s xs h e a = rw (sound-less largestBefore s (sound-parts s h) (subst (NoneAbove largestBefore) (sym e) a)) (ap some e)
+pub stayed-so : (s : List ℕ) (xs : List Object) → sound s ≡ true → objects s ≡ xs → noneAbove largestBefore xs ≡ true → held largestBefore s ≡ some xs
+stayed-so s xs h e a = rw (sound-less largestBefore s (sound-parts s h) (rw e a)) (ap some e)
 
-pub older-small : (s : List ℕ) (xs : List Object) → held largestBefore s ≡ some xs → NoneAbove largestBefore xs
+pub older-small : (s : List ℕ) (xs : List Object) → held largestBefore s ≡ some xs → noneAbove largestBefore xs ≡ true
 older-small s xs h =
     let q = older-stay s xs h in
-    subst (NoneAbove largestBefore) (q .1) (small-by largestBefore s (sound-parts s (q .0)) (go (soundBy largestBefore s) h))
+    subst (λ (ys : List Object). noneAbove largestBefore ys ≡ true) (q .1) (small-by largestBefore s (sound-parts s (q .0)) (go (soundBy largestBefore s) h))
   where
     go : (t : Bool) → cond t (some (objects s)) none ≡ some xs → t ≡ true
     go true q = refl

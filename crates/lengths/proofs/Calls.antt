@@ -44,7 +44,7 @@ abbrev bareOutcome : Outcome → Outcome
 bareOutcome o = outcome (o .answer) (butLength (o .drive)) (o .lent)
 
 -- neither of two bits is set
-unset : (a b : Bool) → a || b ≡ false → (a ≡ false) × (b ≡ false)
+pub unset : (a b : Bool) → a || b ≡ false → (a ≡ false) × (b ≡ false)
 unset false b h = (refl, h)
 unset true b h = absurd (not-both h)
 

@@ -52,7 +52,7 @@ pub mounts-so : (rec p0 p1 : List ℕ) → mountBy mountedBlockLength rec p0 p1 
 unfolding mountCall mountedDrive
 mounts-so rec p0 p1 = refl
 
-made-length : (n : ℕ) → lengthIn (encodeOf (mountedDrive n)) ≡ mountedBlockLength
+pub made-length : (n : ℕ) → lengthIn (encodeOf (mountedDrive n)) ≡ mountedBlockLength
 unfolding mountedDrive
 made-length n = length-back (mountedDrive n) (omega arith)
 

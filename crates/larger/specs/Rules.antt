@@ -1,36 +1,39 @@
--- Q-7: the largest block, raised from 65,536 to 1,048,576 bytes. The rules that cite it, by any largest block m, so that 01's and Q-7's can be put side
--- by side; what a variable WRITE of a block leaves; and how much a READ or a WRITE can ask for.
+-- Q-7: the largest block, raised from 65,536 to 1,048,576 bytes. Each definition that cites it, by any largest block m, so that 01's and Q-7's can be put
+-- side by side; and the uses of a drive and a cartridge that have to do with no block above m.
 -- Assumes nothing: these are definitions.
-use Prim.Native.Nat.{ℕ, zero, suc, _+_, _-_, _*_, _/_, _^_, _≤_, _<_}
+use Prim.Native.Nat.{ℕ, zero, suc, _+_, _-_, _*_, _/_, _^_, _≤_}
 use mathlib.Core.Path.{_≡_}
 use mathlib.Core.Bool.{Bool, true, false, cond, not, _&&_, _||_}
 use mathlib.Core.Option.{Option, none, some}
 use mathlib.Core.List.{List, [], _∷_, _++_}
 use lib.Dec.{eqb, leb, ltb}
-use lib.ListN.{length, take, getElem?, set}
+use lib.ListN.{length, set}
 use Rattle.words.specs.Words.{be, bytes}
-use Rattle.answers.specs.Answers.{commandShort, recordFault, checkCondition, refused, answered, first}
-use Rattle.objects.specs.Object.{Object, block, largestBlock}
-use Rattle.objects.specs.Events.{put}
+use Rattle.answers.specs.Answers.{commandShort, recordFault, alreadyLoaded, wrongLength, unsoundImage, Settled, settledBy, refused, refusalOf, first}
+use Rattle.objects.specs.Object.{Object, dataOf}
 use Rattle.objects.specs.Room.{entryLength, trailerLength}
-use Rattle.image.specs.Image.{flagBits, count, flags, directory, size, protected, entry, topBit, low31, endAt, rightLength, absent, zone, objects}
-use Rattle.changes.specs.Changes.{occur}
-use Rattle.sense.specs.Sense.{illegalRequest, invalidListField, unqualified, plainly, senseBytes, emptySense}
+use Rattle.image.specs.declared.part.Part.{Part}
+use Rattle.image.specs.Image.{flagBits, count, flags, directory, size, entry, topBit, low31, endAt, rightLength, absent, objects}
+use Rattle.image.specs.Parts.{emptyPart}
+use Rattle.trailers.specs.Trailers.{protect}
+use Rattle.sense.specs.Sense.{illegalRequest, invalidListField, unqualified, plainly}
 use Rattle.record.specs.declared.drive.Drive.{Drive}
-use Rattle.record.specs.Record.{recordLength, decodeOf, encodeOf, wellFormed, withSense}
+use Rattle.record.specs.Record.{recordLength, decodeOf, encodeOf, wellFormed, mountedDrive}
 use Rattle.codes.specs.declared.operation.Operation.{Operation}
 use Rattle.codes.specs.declared.operation.Operation.the-variants.{ReadBlockLimits, Write, ModeSelect}
 use Rattle.codes.specs.Codes.{codeOf, tooShort, operationOf, masksHold}
 use Rattle.codes.specs.Fields.{fixedOf, transferOf, allocationOf}
+use Rattle.house.specs.Mount.{partitionsOf, rightLengths}
 use Rattle.commands.specs.Kinds.{among}
 use Rattle.commands.specs.Stop.{Stop}
 use Rattle.commands.specs.Parameters.{headerLength, wholeLength, headerRight, newLength}
-use Rattle.commands.specs.Act.{Seen, Deed, good, checked, giving, carrying, at, withLength, warned, act}
+use Rattle.commands.specs.Act.{Seen, Deed, good, checked, giving, carrying, withLength, act}
 use Rattle.commands.specs.Tests.{fieldError, fieldFault, tests}
 use Rattle.commands.specs.Step.{steppedBy, unless}
-use Rattle.commands.specs.Call.{Lent, lent, outcome, Result, result, partition, looksAt, seen, applied, written}
-use Rattle.history.specs.History.{cartridge}
-use Rattle.history.specs.Demand3.{Mounted}
+use Rattle.commands.specs.Call.{Lent, lent, outcome, Result, partition, looksAt, seen, applied, written}
+use Rattle.history.specs.History.{Slot, slot0, slot1, Cartridge, cartridge, slicesLeft}
+use Rattle.history.specs.Always.{Use, sends, mounts, protects}
+use Rattle.lengths.specs.Lengths.{Turn}
 
 -- 01: "1 to 65,536"
 abbrev pub largestBefore : ℕ
@@ -103,6 +106,26 @@ module _ (m : ℕ) where
       (cond (not (wellRecordBy rec && insertedBy d (x .part0) (x .part1))) (outcome (refused recordFault) d x)
       (applied (unless (first (testsBy o d (x .cmd) v (x .sent) (length (x .received)))) d (steppedBy o d (x .cmd) (x .sent) v (actBy o d (x .cmd) (x .sent) v))) (looksAt o d (x .cmd)) x)))
 
+  -- house/Mount: number 4, and number 6
+  unfoldable pub mountBy : List ℕ → List ℕ → List ℕ → Settled
+  mountBy rec p0 p1 =
+      settledBy
+      (refusalOf (first
+      ((not (wellRecordBy rec), recordFault)
+      ∷ (eqb (decodeOf rec .loaded) 1, alreadyLoaded)
+      ∷ (not (rightLengths p0 p1), wrongLength)
+      ∷ (not (soundBy p0 && (absent p1 || soundBy p1)), unsoundImage)
+      ∷ [])))
+      rec (encodeOf (mountedDrive (partitionsOf p1)))
+
+  -- house/Images: protection's number 6
+  unfoldable pub protectBy : Bool → List ℕ → Settled
+  protectBy on s = settledBy (refusalOf (first ((not (rightLength s), wrongLength) ∷ (not (soundBy s), unsoundImage) ∷ []))) s (protect on s)
+
+  -- image/Parts, which the view hands out
+  unfoldable pub partBy : List ℕ → ℕ → Part
+  partBy s i = cond (soundBy s && ltb i (count s) && not (topBit (entry s i))) (record { start = endAt s i; len = endAt s (suc i) - endAt s i }) emptyPart
+
 -- ---- "Older images stay sound."
 
 -- what an image holds by the rule: of one that is not sound nothing is said
@@ -110,62 +133,49 @@ abbrev pub held : ℕ → List ℕ → Option (List Object)
 held m s = cond (soundBy m s) (some (objects s)) none
 
 -- no block among the objects has more than m bytes
-abbrev pub NoneAbove : ℕ → List Object → Type 0
-NoneAbove m xs = (k : ℕ) (bs : List ℕ) → getElem? xs k ≡ some (block bs) → length bs ≤ m
+unfoldable pub noneAbove : ℕ → List Object → Bool
+noneAbove m [] = true
+noneAbove m (x ∷ xs) = leb (length (dataOf x)) m && noneAbove m xs
 
--- ---- a call that has to do with no block above m
+-- ---- a drive and a cartridge that have to do with no block above m
+
+-- neither the record nor a partition has one
+pub record NoneAbove (m : ℕ) (rec : List ℕ) (c : Cartridge) : Type 0 where
+  pub length-set : decodeOf rec .«block_length» ≤ m
+  pub part0 : noneAbove m (objects (c .part0)) ≡ true
+  pub part1 : noneAbove m (objects (c .part1)) ≡ true
 
 -- a command that speaks of one: READ BLOCK LIMITS, which tells the largest; a variable WRITE of one; a MODE SELECT that names such a length
-abbrev pub speaksAbove : ℕ → Lent → Bool
-speaksAbove m x =
-    let o = operationOf (codeOf (x .cmd)) in
+unfoldable pub speaksAbove : ℕ → List ℕ → List ℕ → Bool
+speaksAbove m cmd sent =
+    let o = operationOf (codeOf cmd) in
     among (ReadBlockLimits ∷ []) o
-    || (among (Write ∷ []) o && not (fixedOf (x .cmd)) && ltb m (transferOf (x .cmd)))
-    || (among (ModeSelect ∷ []) o && eqb (allocationOf (x .cmd)) wholeLength && ltb m (newLength (x .sent)))
+    || (among (Write ∷ []) o && not (fixedOf cmd) && ltb m (transferOf cmd))
+    || (among (ModeSelect ∷ []) o && eqb (allocationOf cmd) wholeLength && ltb m (newLength sent))
 
--- neither the record, nor a partition lent, nor the command has one
-pub record Within (m : ℕ) (rec : List ℕ) (x : Lent) : Type 0 where
-  pub length-set : decodeOf rec .«block_length» ≤ m
-  pub part0 : NoneAbove m (objects (x .part0))
-  pub part1 : NoneAbove m (objects (x .part1))
-  pub command : speaksAbove m x ≡ false
+-- ---- a record and a cartridge used with each other, by the rules with m: what each use tells and leaves, in turn
 
--- ---- a variable WRITE of n bytes, on a drive that is ready for it
+abbrev pub turnBy : ℕ → Use → List ℕ → Cartridge → Turn
+turnBy m (sends cmd sent received) rec c =
+    let r = callBy m rec (lent cmd (c .part0) (c .part1) sent received) in
+    record { answer = r .answer; received = r .lent .received; rec = r .rec; cart = slicesLeft r }
+turnBy m mounts rec c =
+    let s = mountBy m rec (c .part0) (c .part1) in
+    record { answer = s .answer; received = []; rec = s .lent; cart = c }
+turnBy m (protects slot0 on) rec c =
+    let s = protectBy m on (c .part0) in
+    record { answer = s .answer; received = []; rec = rec; cart = cartridge (s .lent) (c .part1) }
+turnBy m (protects slot1 on) rec c =
+    let s = protectBy m on (c .part1) in
+    record { answer = s .answer; received = []; rec = rec; cart = cartridge (c .part0) (s .lent) }
 
-abbrev pub currentOf : List ℕ → Lent → List ℕ
-currentOf rec x = partition (decodeOf rec .current) (x .part0) (x .part1)
+unfoldable pub playedBy : ℕ → List Use → List ℕ → Cartridge → List Turn
+playedBy m [] rec c = []
+playedBy m (u ∷ us) rec c = let t = turnBy m u rec c in t ∷ playedBy m us (t .rec) (t .cart)
 
-pub record Writes (n : ℕ) (rec : List ℕ) (x : Lent) : Type 0 where
-  pub is : operationOf (codeOf (x .cmd)) ≡ Write
-  pub whole : tooShort (x .cmd) ≡ false
-  pub masks : masksHold (x .cmd) ≡ true
-  pub variable : fixedOf (x .cmd) ≡ false
-  pub asks : transferOf (x .cmd) ≡ n
-  pub mounted : Mounted rec (cartridge (x .part0) (x .part1))
-  pub unguarded : protected (currentOf rec x) ≡ false
-  pub sends : n ≤ length (x .sent)
-
--- the block that it is to put, and the current partition with it
-abbrev pub blockSent : ℕ → Lent → Object
-blockSent n x = block (take n (x .sent))
-
-abbrev pub withBlock : ℕ → List ℕ → Lent → List ℕ
-withBlock n rec x = occur (put (decodeOf rec .position) (blockSent n x)) (currentOf rec x)
-
--- what it leaves where the block goes down: n bytes carried, the position after it; in the zone 0/00/02, else GOOD
-abbrev pub blockPut : ℕ → List ℕ → Lent → Result
-blockPut n rec x =
-    let d = decodeOf rec in
-    let p = withBlock n rec x in
-    let z = zone p (suc (d .position)) in
-    result (answered (cond z checkCondition 0x00) n 0)
-    (encodeOf (withSense (at d (suc (d .position))) (cond z (senseBytes warned) emptySense)))
-    (lent (x .cmd) (cond (eqb (d .current) 1) (x .part0) p) (cond (eqb (d .current) 1) p (x .part1)) (x .sent) (x .received))
-
--- ---- "length × block length" at most: a count of 24 bits, and the largest block
-
-abbrev pub mostCount : ℕ
-mostCount = 2 ^ 24 - 1
-
-abbrev pub mostAsked : ℕ
-mostAsked = mostCount * largestBlock
+-- uses of which no command speaks of a block above m
+unfoldable pub noneSpeaks : ℕ → List Use → Bool
+noneSpeaks m [] = true
+noneSpeaks m (sends cmd sent received ∷ us) = not (speaksAbove m cmd sent) && noneSpeaks m us
+noneSpeaks m (mounts ∷ us) = noneSpeaks m us
+noneSpeaks m (protects s on ∷ us) = noneSpeaks m us
