@@ -1,5 +1,5 @@
-/* damage.c SEED: whether the library finds an image sound just where the model of document 01 does, with one thing
- * wrong at a time: a bit of the trailer or of an entry, or an end that shows up a check which judges an entry by
+/* damage.c SEED: whether the library finds an image sound just where the model of documents 01 and 02 does, with one
+ * thing wrong at a time: a bit of the trailer or of an entry, or an end that shows up a check which judges an entry by
  * another end than the one before it. The seed draws the objects of the larger images, and not what is wrong. */
 #define _DEFAULT_SOURCE
 #include "judgement.h"
@@ -63,7 +63,8 @@ static int is_among(uint32_t number, const uint32_t *numbers, size_t count)
 }
 
 /* Ends on both sides of each bound, which are counted from the end before the entry, or else from those that a wrong
- * check has in its place: the end before that one, the end of the entry after, and 0. */
+ * check has in its place: the end before that one, the end of the entry after, and 0. What was the largest block before
+ * 02 is no bound any more. */
 static void put_ends(size_t object)
 {
     uint32_t before = (uint32_t)end_in(image.slice, object);
@@ -72,6 +73,7 @@ static void put_ends(size_t object)
     uint32_t directory = get32(word_at(image.length - TRAILER_D));
     const uint32_t ends[] = {
         before - 1, before, before + 1, before + LARGEST_BLOCK, before + LARGEST_BLOCK + 1,
+        before + LARGEST_BEFORE, before + LARGEST_BEFORE + 1,
         earlier, earlier + 1, earlier + LARGEST_BLOCK, earlier + LARGEST_BLOCK + 1,
         later - 1, later,
         0, 1, LARGEST_BLOCK, LARGEST_BLOCK + 1,
@@ -100,20 +102,20 @@ static void damage_whole(uint32_t flags)
 
 static void damage_small_images(void)
 {
-    enum { B = LARGEST_BLOCK };
+    enum { B = LARGEST_BLOCK, F = LARGEST_BEFORE };
     static const struct {
         size_t count;
         uint32_t sizes[9];
     } rows[] = {
         {0, {0}},
-        {1, {0}}, {1, {1}}, {1, {B}},
-        {2, {0, 0}}, {2, {0, 1}}, {2, {1, 0}}, {2, {1, 1}}, {2, {B, B}}, {2, {300, 700}},
-        {3, {0, B, 0}}, {3, {B, 0, 1}}, {3, {1, 0, B}},
+        {1, {0}}, {1, {1}}, {1, {F}}, {1, {F + 1}}, {1, {B}},
+        {2, {0, 0}}, {2, {0, 1}}, {2, {1, 0}}, {2, {1, 1}}, {2, {F, F}}, {2, {B, B}}, {2, {300, 700}},
+        {3, {0, B, 0}}, {3, {B, 0, 1}}, {3, {1, 0, B}}, {3, {F + 1, F, B - 1}},
         {9, {0, 1, 0, B, 0, 0, 1, 2, 0}},
         {9, {0, 0, 1, 1, 9000, B, 20000, 0, 1}},
         {9, {B, 0, 300, 1, 300, 0, 0, 1, B}},
     };
-    static const size_t spares[] = {0, 1, LARGEST_BLOCK + 1};
+    static const size_t spares[] = {0, 1, LARGEST_BEFORE + 1, LARGEST_BLOCK + 1};
     for (size_t row = 0; row < COUNT(rows); row++)
         for (size_t i = 0; i < COUNT(spares); i++)
             for (int slice = P0; slice <= P1; slice++)
@@ -127,16 +129,18 @@ static void damage_small_images(void)
 
 /* ---- larger images */
 
-/* Small blocks and filemarks, and a largest block with one behind it that may take some of its bytes. */
+/* Small blocks and filemarks, and a largest block with one behind it that may take some of its bytes. One in three is
+ * an older image: its largest block is the largest that there was. */
 static void draw_objects(size_t count)
 {
     static const uint32_t likely[] = {1, 1, 2, 3, 17, 255, 256, 300}, shares[] = {10, 40, 90};
     uint32_t sizes[OBJECTS_MOST + 2] = {0}, filemarks = shares[draw(COUNT(shares))];
+    uint32_t most = one_in(3) ? LARGEST_BEFORE : LARGEST_BLOCK;
     size_t largest = draw(count + 1);
     for (size_t i = 0; i < count; i++)
         sizes[i] = draw(100) < filemarks ? 0 : likely[draw(COUNT(likely))];
-    sizes[largest] = LARGEST_BLOCK;
-    sizes[largest + 1] = 1 + draw(LARGEST_BLOCK);
+    sizes[largest] = most;
+    sizes[largest + 1] = 1 + draw(most);
     set_objects(sizes, count);
 }
 
@@ -202,7 +206,7 @@ static void damage_at_offset(size_t offset, int is_front, uint32_t first, size_t
     set_objects(sizes, count);
     image.slice = one_in(2) ? P1 : P0;
     place_image(full_length());
-    twins[image.slice].at = is_front ? offset : LARGE_ROOM - image.length - offset;
+    twins[image.slice].at = is_front ? offset : SHARED_ROOM - image.length - offset;
     lay_image(0);
     lend_cartridge();
     judge_as_laid(OFFSETS);

@@ -2,14 +2,14 @@
  * random work. With the largest, bytes carried and zeroed come near 2^30, which takes 3 GiB of memory. */
 #define _DEFAULT_SOURCE
 #include "asking.h"
+#include "large.h"
 #include "left_over.h"
-#include "mounted.h"
 #include "report.h"
 
 /* ---- sequences from a blank cartridge */
 
-/* Mostly small, where the zone and the end are near; at times large enough for blocks of 65,536 bytes. Where sixteen
- * divides the length, room can lie on the zone's very bound. */
+/* Mostly small, where the zone and the end are near; at times large enough for blocks of 65,536 bytes and more. Where
+ * sixteen divides the length, room can lie on the zone's very bound. */
 static size_t likely_image_length(void)
 {
     uint32_t kind = draw(200);
@@ -39,7 +39,7 @@ static void run_sequence(void)
     call_blank(P0);
     call_blank(P1);
     call_fresh();
-    run_calls(50 + draw(150));
+    run_calls(50 + draw(140));
 }
 
 /* ---- one byte off, at every field */
@@ -158,22 +158,36 @@ static void run_many_objects(void)
 
 /* ---- more bytes lent than 32 bits count */
 
+/* With room for some blocks of the length that is set, or for none. */
+static void lay_wide_image(uint32_t block_length)
+{
+    if (block_length == LARGEST_BLOCK && one_in(2)) {
+        place(P0, LARGEST_BLOCK + 3000 + draw(LARGEST_BLOCK));
+        call_blank(P0);
+    } else {
+        place(P0, one_in(2) ? 3000 + draw(3000) : 140000 + draw(70000));
+        lay_image(P0, draw(4), 10, 1);
+    }
+    place(P1, 0);
+}
+
 /* READ and WRITE of 2^32 bytes and a little more, lent in full or a byte short; only touched pages take memory. */
 static void run_wide(void)
 {
     static struct twin wide_sent, wide_received;
-    struct twin sent = twins[SENT], received = twins[RECEIVED];
+    struct twin sent, received;
     if (wide_sent.room_length == 0) {
         wide_sent = sparse_twin(beyond_32_bits);
         wide_received = sparse_twin(beyond_32_bits);
     }
+    take_large_rooms();
+    sent = twins[SENT];
+    received = twins[RECEIVED];
     for (int calls = 0; calls < 12; calls++) {
-        uint32_t block_length = one_in(2) ? LARGEST_BLOCK : 257 + draw(2000);
+        uint32_t lengths[] = {LARGEST_BLOCK, LARGEST_BEFORE, 257 + draw(2000)}, block_length = lengths[calls % 3];
         uint64_t count = BEYOND_32_BITS / block_length + draw(3), bytes = count * block_length;
         uint8_t record[RECORD_BYTES] = {[STORMTOGGLE_RECORD_LOADED] = 1, [STORMTOGGLE_RECORD_PARTITIONS] = 1};
-        place(P0, one_in(2) ? 3000 + draw(3000) : 140000 + draw(70000));
-        lay_image(P0, draw(4), 10, 1);
-        place(P1, 0);
+        lay_wide_image(block_length);
         put32(record + STORMTOGGLE_RECORD_BLOCK_LENGTH, block_length);
         place(RECORD, RECORD_BYTES);
         lay(RECORD, 0, record, RECORD_BYTES);
@@ -182,7 +196,7 @@ static void run_wide(void)
         twins[RECEIVED] = wide_received;
         twins[SENT].length = twins[RECEIVED].length = (size_t)bytes - one_in(4);
         for (int i = 0; i < 6; i++) {
-            set_block(i == 0 ? WRITE : i == 1 ? REWIND : one_in(2) ? READ : WRITE);
+            set_block(i == 0 ? WRITE : i == 1 ? REWIND : i == 2 || one_in(2) ? READ : WRITE);
             block[1] = block[0] != REWIND ? FIXED : 0;
             if (block[0] != REWIND)
                 set_count(count);
@@ -192,6 +206,7 @@ static void run_wide(void)
         twins[SENT] = sent;
         twins[RECEIVED] = received;
     }
+    exchange_rooms();
 }
 
 int main(int arguments, char **argument)
@@ -219,6 +234,8 @@ int main(int arguments, char **argument)
             run_near_end();
         if (round % 8 == 4)
             run_mounted();
+        if (round % 8 == 6)
+            run_large();
         if (round % 16 == 0) {
             run_left_over();
             run_many_objects();

@@ -6,7 +6,8 @@
 
 /* ---- the image */
 
-enum { OBJECTS_MOST = 1000 };
+/* A room holds three of the largest blocks and more, as nobody looks at their data. */
+enum { OBJECTS_MOST = 1000, SHARED_ROOM = 8 * LARGE_ROOM };
 
 /* A sound image: each damage is laid over it, judged, and taken back. */
 static struct {
@@ -21,16 +22,18 @@ static inline void share_pages(enum slice slice)
 {
     struct twin *twin = &twins[slice];
     FILE *file = tmpfile();
-    if (file == NULL || ftruncate(fileno(file), LARGE_ROOM) != 0)
+    if (file == NULL || ftruncate(fileno(file), SHARED_ROOM) != 0)
         abort();
     unmap_twin(twin);
+    twin->room_length = SHARED_ROOM;
     for (int side = MODEL; side <= LIBRARY; side++) {
         int access = side == MODEL ? PROT_READ | PROT_WRITE : PROT_READ;
-        twin->room[side] = guarded_pages(LARGE_ROOM, PROT_NONE);
-        if (mmap(twin->room[side], LARGE_ROOM, access, MAP_SHARED | MAP_FIXED, fileno(file), 0) == MAP_FAILED)
+        twin->room[side] = guarded_pages(SHARED_ROOM, PROT_NONE);
+        if (mmap(twin->room[side], SHARED_ROOM, access, MAP_SHARED | MAP_FIXED, fileno(file), 0) == MAP_FAILED)
             abort();
     }
-    memcpy(twin->room[MODEL], noise, LARGE_ROOM);
+    for (size_t at = 0; at < SHARED_ROOM; at += LARGE_ROOM)
+        memcpy(twin->room[MODEL] + at, noise, LARGE_ROOM);
     sealed[slice] = 1;
     fclose(file);
 }

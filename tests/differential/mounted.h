@@ -48,7 +48,7 @@ static inline void send_fixed(uint8_t code, uint64_t blocks)
 
 static inline uint64_t odd_length(void)
 {
-    static const uint32_t lengths_beside[] = {MOUNTED_LENGTH - 1, MOUNTED_LENGTH + 1, LARGEST_BLOCK};
+    static const uint32_t lengths_beside[] = {MOUNTED_LENGTH - 1, MOUNTED_LENGTH + 1, LARGEST_BEFORE};
     return one_in(2) ? 1 + draw(9) : lengths_beside[draw(COUNT(lengths_beside))];
 }
 
@@ -87,7 +87,7 @@ static inline void load_and_unload(void)
 
 static inline void select_another(void)
 {
-    static const uint32_t selected[] = {0, 0, 1, 512, MOUNTED_LENGTH - 1, LARGEST_BLOCK};
+    static const uint32_t selected[] = {0, 0, 1, 512, MOUNTED_LENGTH - 1, LARGEST_BEFORE};
     set_length_of_blocks(selected[draw(COUNT(selected))]);
     send(LOCATE, CP, 0);
     send(READ, SILI, 1 + draw(9));

@@ -2,7 +2,7 @@
 #ifndef REACHED_H
 #define REACHED_H
 
-#include "senses.h"
+#include "sizes.h"
 
 enum service { FRESH, BLANK, MOUNT, PROTECT, VIEW, A_COMMAND, SERVICES };
 static const char *const service_names[] = {"fresh", "blank", "mount", "protect", "view", "command"};
@@ -117,6 +117,7 @@ static inline void count_command(unsigned refusal, uint64_t answer)
     count_sealed(block, refusal);
     count_length(block, refusal, told, STORMTOGGLE_CARRIED(answer), record_before, record);
     count_asking(block, refusal, told, record_before);
+    count_size(block, refusal, told, STORMTOGGLE_CARRIED(answer), record_before, record);
     if (refusal != 0) {
         reached.refused[block[0]]++;
         note_move(ONE_BYTE_SHORT, is_long_move(block[0]) && twins[COMMAND].length == BYTES_16 - 1);
@@ -149,6 +150,8 @@ static inline void count_reached(uint64_t answer)
     if (latest.service == VIEW && answer != 0) {
         reached.views_found++;
         note_width(WIDE_START, STORMTOGGLE_VIEW_START(answer));
+        if (size_of(STORMTOGGLE_VIEW_LENGTH(answer)) < SIZES)
+            note_size(BLOCK_VIEWED, size_of(STORMTOGGLE_VIEW_LENGTH(answer)), 1);
     }
     for (int i = 0; i < SLICES; i++)
         reached.null_slices += latest.empty_is_null && twins[i].length == 0;
@@ -158,8 +161,10 @@ static inline void count_reached(uint64_t answer)
         crossings.just_before = 0;
         senses.form_behind = FORMS;
     }
-    if (latest.service == MOUNT && twins[RECORD].length == RECORD_BYTES)
+    if (latest.service == MOUNT && twins[RECORD].length == RECORD_BYTES) {
         count_mount(refusal, record_before, bytes_of(RECORD, MODEL));
+        count_sized_mount(refusal, record_before);
+    }
     if (latest.service == FRESH)
         mounts.source = FROM_ELSEWHERE;
     keep_source(bytes_of(RECORD, MODEL));

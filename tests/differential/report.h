@@ -83,7 +83,7 @@ static inline void report_widths(void)
         [WIDE_FILEMARKS] = {"filemarks before it", {16, 17, 20, 24}, 0},
         [WIDE_FIXED] = {"a count of FIXED", {16, 17}, 0},
         [WIDE_BLOCK] = {"a command block's length", {8, 16, 17, 24, 32}, 0},
-        [WIDE_CARRIED] = {"bytes carried", {16, 24, 28}, 29},
+        [WIDE_CARRIED] = {"bytes carried", {16, 20, 24, 28}, 29},
         [WIDE_ZEROED] = {"bytes zeroed by LONG", {16, 24, 28}, 29},
         [WIDE_ROOM] = {"room x 16", {16, 24, 32, 33}, 0},
         [WIDE_START] = {"the start of a view", {16, 24, 28, 29}, 0},
@@ -255,6 +255,25 @@ static inline void report_kept(void)
                shown(senses.strangers[DESC_FORM][i]));
 }
 
+/* A kind with each of its sizes. */
+static inline void report_sizes(void)
+{
+    for (int kind = 0; kind < SIZE_KINDS; kind++) {
+        printf("%-44s", size_kinds[kind].name);
+        for (int size = size_kinds[kind].first; size <= size_kinds[kind].last; size++)
+            printf("%s %s %lu", size == size_kinds[kind].first ? "" : ",", size_names[size],
+                   shown(sized.kinds[kind][size]));
+        printf("\n");
+    }
+    printf("FIXED in blocks of 1,048,576, refused by 2 and by 3");
+    for (int i = 0; i < PRODUCTS; i++)
+        printf("%s %s of them %lu, %lu", i == 0 ? "" : ";", product_names[i], shown(sized.products[i][0]),
+               shown(sized.products[i][1]));
+    printf("; 2^32 bytes and more lent, some put %lu, some got %lu\n", shown(sized.lent_in_full[0]),
+           shown(sized.lent_in_full[1]));
+    printf("READ BLOCK LIMITS, nothing loaded %lu, loaded %lu\n", shown(sized.limits[0]), shown(sized.limits[1]));
+}
+
 static inline void report_read_only(void)
 {
     printf("read-only: a WRITE that puts nothing %lu, the partition beside %lu, a buffer that receives nothing %lu, "
@@ -278,8 +297,9 @@ static inline int report(void)
     report_asking(FIXED_FORM);
     report_asking(DESC_FORM);
     report_kept();
+    report_sizes();
     report_read_only();
-    printf("empty slices as NULL %lu, 2^32 bytes and more asked %lu, and lent %lu, 65,536 put %lu\n",
+    printf("empty slices as NULL %lu, 2^32 bytes and more asked %lu, and lent %lu, 1,048,576 put %lu\n",
            shown(reached.null_slices), shown(reached.wide_products), shown(reached.wide_done),
            shown(reached.largest_blocks));
     print_totals();

@@ -60,10 +60,11 @@ static inline uint64_t seen_zone(void)
 
 /* ---- the numbers in a command block */
 
-/* Products of 2^32 and more, among them those whose low 32 bits are 0, and merely large ones. */
+/* Products of 2^32 and more, among them those whose low 32 bits are 0 or whose low 40 are, and merely large ones. */
 static inline uint64_t large_count(void)
 {
-    static const uint32_t counts[] = {0x010000, 0x020000, COUNT_SIGN, COUNT_SIGN - 1, COUNT_MOST, 0x010001, 0xff0000};
+    static const uint32_t counts[] = {0x001000, 0x001001, 0x010000, 0x010001, 0x020000, 0x100000, 0x100001, 0xff0000,
+                                      COUNT_SIGN, COUNT_SIGN - 1, COUNT_MOST};
     return one_in(3) ? draw(1 << COUNT_BITS) : counts[draw(COUNT(counts))];
 }
 
@@ -84,19 +85,26 @@ static inline uint64_t read_length(int fixed)
     }
 }
 
+/* The largest block, or the largest that there was, which has room more often. */
+static inline uint64_t bound_of_blocks(void)
+{
+    return one_in(3) ? LARGEST_BLOCK : LARGEST_BEFORE;
+}
+
 static inline uint64_t write_length(int fixed)
 {
-    uint64_t room = seen_room();
+    uint64_t room = seen_room(), bound;
     if (one_in(60))
         return large_count();
     if (fixed)
         return one_in(4) ? near(room / (seen.block_length + ENTRY)) % 4096 : draw(4);
+    bound = bound_of_blocks();
     switch (draw(12)) {
     case 0: return near(less(room, ENTRY)) % (LARGEST_BLOCK + 2);
     case 1: return near(less(room, ENTRY + seen_zone())) % (LARGEST_BLOCK + 2);
     case 2: return draw(room + 6) % (LARGEST_BLOCK + 1);
-    case 3: return room > LARGEST_BLOCK || one_in(8) ? near(LARGEST_BLOCK) : draw(30);
-    case 4: return room > LARGEST_BLOCK ? LARGEST_BLOCK : draw(room / 4 + 2);
+    case 3: return room > bound || one_in(8) ? near(bound) : draw(30);
+    case 4: return room > bound ? bound : draw(room / 4 + 2);
     case 5: return seen.block_length;
     default: return draw(9);
     }

@@ -36,7 +36,8 @@ static inline void lay_record(int loaded)
 {
     static const uint8_t attentions[] = {ATTENTION_NONE, ATTENTION_NONE, ATTENTION_NONE, ATTENTION_NONE,
                                          ATTENTION_NONE, ATTENTION_NONE, ATTENTION_MOUNTED, ATTENTION_FRESH};
-    static const uint32_t lengths[] = {0, 0, 1, 2, 3, 4, MOUNTED_LENGTH, LARGEST_BLOCK - 1, LARGEST_BLOCK};
+    static const uint32_t lengths[] = {0, 0, 1, 2, 3, 4, MOUNTED_LENGTH, LARGEST_BEFORE, LARGEST_BEFORE + 1,
+                                       LARGEST_BLOCK - 1, LARGEST_BLOCK};
     uint8_t record[RECORD_BYTES] = {0};
     memcpy(record + STORMTOGGLE_RECORD_SENSE, noise + draw(1000), SENSE_BYTES);
     record[STORMTOGGLE_RECORD_ATTENTION] = attentions[draw(COUNT(attentions))];

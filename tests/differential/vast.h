@@ -5,7 +5,7 @@
 
 #include "work.h"
 
-static const size_t beyond_32_bits = (size_t)BEYOND_32_BITS + 0x100000;
+static const size_t beyond_32_bits = (size_t)BEYOND_32_BITS + 4 * LARGEST_BLOCK;
 
 /* How many largest blocks the longest cartridge holds. */
 static const size_t full_count = (LONGEST - TRAILER) / (LARGEST_BLOCK + ENTRY);
@@ -37,23 +37,25 @@ static inline void lay_word(enum slice slice, size_t offset, uint64_t number)
     lay(slice, offset, word, sizeof word);
 }
 
-/* Some byte in each 65,536 of the room, none of them 0, so that a block left out shows, and a run not zeroed. */
+/* Some byte in each stretch of the room, none of them 0, so that a block left out shows, or a part of a large one, and
+ * a run not zeroed. */
 static inline void lay_marks(enum slice slice)
 {
+    enum { STRETCH = 16 * PAGE_BYTES };
     const struct twin *twin = &twins[slice];
-    for (size_t at = 0; at < twin->room_length; at += LARGEST_BLOCK) {
-        size_t offset = at + draw(LARGEST_BLOCK);
+    for (size_t at = 0; at < twin->room_length; at += STRETCH) {
+        size_t offset = at + draw(STRETCH);
         twin->room[MODEL][offset] = twin->room[LIBRARY][offset] = (uint8_t)(1 + draw(255));
     }
 }
 
-/* Noise in a room that is not much larger than others. */
+/* Noise in a room that is not much larger than others; no two pieces of it are alike, nor those of two slices. */
 static inline void fill_room(enum slice slice)
 {
     const struct twin *twin = &twins[slice];
     for (size_t at = 0; at < twin->room_length; at += PIECE)
         for (int side = MODEL; side <= LIBRARY; side++)
-            memcpy(twin->room[side] + at, noise, PIECE);
+            memcpy(twin->room[side] + at, noise + at / PIECE * 37 + (size_t)slice * 5000, PIECE);
 }
 
 /* ---- commands */
@@ -242,10 +244,12 @@ static inline void send_past_end(uint64_t objects, uint64_t blocks_left)
 
 /* Bytes carried and zeroed, by the number of largest blocks that fit; one more is asked for if the cartridge is the
  * longest. At its beginning room x 16 is 2^32 and more, so that a product cut to 32 bits puts it in the zone; its end
- * is there. */
+ * is there. The last blocks alone are more than 2^24 bytes. */
 static inline void run_bytes(enum slice partition, uint64_t blocks)
 {
-    uint64_t length = blocks * (LARGEST_BLOCK + ENTRY) + TRAILER + draw(LARGEST_BLOCK - 8);
+    enum { LAST = (1 << 24) / LARGEST_BLOCK + 4 };
+    uint64_t full = blocks * (LARGEST_BLOCK + ENTRY) + TRAILER;
+    uint64_t length = full + draw(smaller(LARGEST_BLOCK - 8, LONGEST - full + 1));
     take_room(partition, length);
     take_room(SENT, (blocks + 1) * LARGEST_BLOCK);
     take_room(RECEIVED, (blocks + 1) * LARGEST_BLOCK);
@@ -258,13 +262,13 @@ static inline void run_bytes(enum slice partition, uint64_t blocks)
     send(REWIND, 0, 0);
     send_one_byte_short(READ, FIXED, blocks);
     send(READ, FIXED, blocks);
-    send_past_end(blocks, 300);
-    send(LOCATE, CP, blocks - 300);
-    send(READ, FIXED, 257 + draw(40));
-    send(LOCATE, CP, blocks - 300);
+    send_past_end(blocks, LAST);
+    send(LOCATE, CP, blocks - LAST);
+    send(READ, FIXED, LAST - draw(3));
+    send(LOCATE, CP, blocks - LAST);
     send(ERASE, LONG, 0);
     send(READ_POSITION, FORM_LONG, 0);
-    send(WRITE, FIXED, 257 + draw(40));
+    send(WRITE, FIXED, LAST - draw(3));
     send(LOCATE, CP, 0);
     send(ERASE, LONG, 0);
     send_past_end(0, 0);
@@ -291,6 +295,9 @@ static inline void run_longest(enum slice partition)
     size_t count = full_count;
     vast = partition;
     take_room(vast, LONGEST);
+    take_room(SENT, 2 * LARGEST_BLOCK);
+    take_room(RECEIVED, COUNT_MOST + LARGEST_BLOCK);
+    lay_marks(SENT);
     place(vast, LONGEST);
     place((enum slice)(P0 + P1 - vast), SHORTEST);
     call_blank((enum slice)(P0 + P1 - vast));
@@ -405,7 +412,7 @@ static inline void run_vast(int with_largest)
     run_long_lengths();
     run_counts();
     run_longest(P1);
-    run_bytes(P0, 4097 + draw(8));
+    run_bytes(P0, (1 << 28) / LARGEST_BLOCK + 1 + draw(2));
     if (with_largest) {
         run_longest(P0);
         run_bytes(P1, full_count);

@@ -53,9 +53,10 @@ static uint8_t list[MODE_BYTES];
 static inline void set_mode_select(void)
 {
     static const uint32_t lengths[] = {
-        0, 0, 0, 1, 2, 3, 3, 4, 5, 8, 16, 100, 512, MOUNTED_LENGTH, LARGEST_BLOCK - 1, LARGEST_BLOCK,
-        LARGEST_BLOCK + 1, 0xffffff};
-    uint32_t block_length = one_in(10) ? draw(70000) : lengths[draw(COUNT(lengths))];
+        0, 0, 0, 1, 2, 3, 3, 4, 5, 8, 16, 100, 512, MOUNTED_LENGTH, LARGEST_BEFORE, LARGEST_BEFORE + 1,
+        LARGEST_BLOCK - 1, LARGEST_BLOCK, LARGEST_BLOCK + 1, 0xffffff};
+    uint32_t any = draw(one_in(8) ? LARGEST_BLOCK + LARGEST_BEFORE : LARGEST_BEFORE + 5000);
+    uint32_t block_length = one_in(10) ? any : lengths[draw(COUNT(lengths))];
     block[1] = one_in(20) ? 0x00 : PF;
     block[AT_ALLOCATION] = (uint8_t)(one_in(6) ? draw(14) : one_in(10) ? 0 : one_in(4) ? MODE_HEADER : MODE_BYTES);
     memset(list, 0, sizeof list);
@@ -161,11 +162,11 @@ static inline void lend_block(size_t length)
     lay(COMMAND, 0, block, smaller(length, sizeof block));
 }
 
-/* Mostly what is needed, more at times, and less. */
-static inline size_t likely_room(uint64_t need)
+/* Mostly what is needed, more at times, and less. What is more than there is room for is short whatever is lent. */
+static inline size_t likely_room(uint64_t need, enum slice slice)
 {
     uint64_t length = need;
-    if (need == 0)
+    if (need == 0 || need > twins[slice].room_length)
         length = one_in(6) ? draw(60) : 0;
     else if (one_in(16))
         length = one_in(2) ? need - 1 : draw(need);
@@ -187,10 +188,10 @@ static inline void lend_buffers(void)
 {
     struct session asked = session_with(block);
     uint64_t take = bytes_to_take(&asked), hand_over = bytes_to_hand_over(&asked);
-    place(SENT, likely_room(take));
+    place(SENT, likely_room(take, SENT));
     if (block[0] == MODE_SELECT)
         lay(SENT, 0, list, smaller(twins[SENT].length, sizeof list));
-    lend_received(likely_room(hand_over));
+    lend_received(likely_room(hand_over, RECEIVED));
     reached.wide_products += take >= BEYOND_32_BITS || hand_over >= BEYOND_32_BITS;
 }
 

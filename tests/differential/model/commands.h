@@ -25,10 +25,22 @@ static inline const struct object *next_block(struct session *s, int64_t residue
     return &tape->objects[s->position - 1];
 }
 
+/* The slip lays no more than the largest block that there was. */
+static inline uint64_t laid_of(uint64_t bytes)
+{
+    return FAULT == 213 ? smaller(bytes, LARGEST_BEFORE) : bytes;
+}
+
 static inline void carry(struct session *s, const struct object *block, uint64_t bytes)
 {
-    lay_over(s->received + s->carried, s->image[s->current] + block->start, bytes);
+    lay_over(s->received + cut(s->carried, 221, 20), s->image[s->current] + block->start, laid_of(bytes));
     s->carried += bytes;
+}
+
+/* Whether a block is of the length that is set; the slip has a look at two bytes of each. */
+static inline int is_of_length(const struct object *block, uint64_t length)
+{
+    return cut(block->end - block->start, 222, 16) == cut(length, 222, 16);
 }
 
 static inline void read_fixed(struct session *s, int64_t blocks)
@@ -37,7 +49,7 @@ static inline void read_fixed(struct session *s, int64_t blocks)
         const struct object *block = next_block(s, blocks - done);
         if (block == NULL)
             return;
-        if (block->end - block->start != s->block_length) {
+        if (!is_of_length(block, s->block_length)) {
             tell(s, TOLD_LENGTH, blocks - done - (FAULT == 5));
             return;
         }
@@ -59,7 +71,7 @@ static inline void read_variable(struct session *s, int64_t request)
     /* SILI hides the length, except overlength with a nonzero block length. */
     if (s->block[1] & SILI && (size < request || s->block_length == 0 || FAULT == 9 || slips_as_mounted(s, 148)))
         return;
-    tell(s, TOLD_LENGTH, difference);
+    tell(s, TOLD_LENGTH, difference < 0 ? difference : (int64_t)cut((uint64_t)difference, 216, 20));
 }
 
 /* ---- WRITE and WRITE FILEMARKS */
@@ -73,7 +85,7 @@ static inline int put(struct session *s, int is_filemark, const uint8_t *data, u
     uint64_t entry = FAULT == 150 && bytes == MOUNTED_LENGTH ? 0 : ENTRY;
     if (room_at(tape, s->position) < entry + bytes)
         return 0;
-    lay_over(image + start, data, bytes);
+    lay_over(image + start, data, laid_of(bytes));
     put32(image + entry_at(tape->length, s->position), is_filemark ? ENTRY_FILEMARK | end : end);
     make_room_for(tape, s->position + 1);
     tape->objects[s->position] = (struct object){start, end, is_filemark};
@@ -92,7 +104,7 @@ static inline void put_all(struct session *s, uint64_t objects, uint64_t bytes, 
         return;
     if (FAULT == 3)
         lay_count(s->image[s->current], s->tape[s->current].length, s->position);
-    while (done < objects && put(s, is_filemark, is_filemark ? NULL : s->sent + done * bytes, bytes))
+    while (done < objects && put(s, is_filemark, is_filemark ? NULL : s->sent + cut(done * bytes, 220, 20), bytes))
         done++;
     s->carried = done * bytes;
     if (done < objects)
@@ -107,7 +119,7 @@ static inline void write_blocks(struct session *s)
     if (is_fixed(s->block))
         put_all(s, fixed_count_of(s->block), s->block_length, 1);
     else if (count > 0)
-        put_all(s, 1, count, count);
+        put_all(s, 1, count, (int64_t)cut(count, 217, 20));
 }
 
 /* ---- erasure, and the cartridge as a whole */
@@ -170,8 +182,15 @@ static inline void mode_sense(struct session *s)
     /* As 01 prints them: "0B 00 wp 08" and "03 00 wp 00". */
     uint8_t with_descriptor[MODE_BYTES] = {0x0b, 0x00, wp, 0x08}, header[MODE_HEADER] = {0x03, 0x00, wp, 0x00};
     /* Three bytes of block length; the byte before them is 0, as a block length has no fourth. */
-    put32(with_descriptor + AT_BLOCK_LENGTH - 1, slips_as_mounted(s, 147) ? 0 : (uint32_t)s->block_length);
+    put32(with_descriptor + AT_BLOCK_LENGTH - 1,
+          slips_as_mounted(s, 147) ? 0 : (uint32_t)cut(s->block_length, 202, 16));
     hand_over(s, mode_bytes(s) == MODE_HEADER ? header : with_descriptor);
+}
+
+/* What MODE SELECT takes at most. */
+static inline uint32_t largest_selected(void)
+{
+    return FAULT == 198 ? LARGEST_BEFORE : LARGEST_BLOCK + (uint32_t)(FAULT == 199);
 }
 
 static inline void mode_select(struct session *s)
@@ -187,11 +206,12 @@ static inline void mode_select(struct session *s)
     if (length == MODE_BYTES) {
         /* The byte before the block length is ignored, and the four before that are zero. */
         uint32_t block_length = get32(list + AT_BLOCK_LENGTH - 1) & 0xffffff;
-        if (get32(list + MODE_HEADER) != 0 || block_length > LARGEST_BLOCK) {
+        if (get32(list + MODE_HEADER) != 0 || block_length > largest_selected()) {
             tell(s, TOLD_LIST, 0);
             return;
         }
         s->block_length = FAULT == 146 && block_length == 0 ? MOUNTED_LENGTH : block_length;
+        s->block_length = cut(cut(s->block_length, 200, 16), 201, 20);
     }
     s->carried = length;
 }
@@ -221,15 +241,23 @@ static inline void request_sense(struct session *s)
     form_before = s->block[1] & DESC;
 }
 
+/* As 02 prints them; as 01 did; with two bytes exchanged. */
+static inline const uint8_t *block_limits(void)
+{
+    static const uint8_t limits[LIMITS_BYTES] = {0x00, 0x10, 0x00, 0x00, 0x00, 0x01};
+    static const uint8_t former[LIMITS_BYTES] = {0x00, 0x01, 0x00, 0x00, 0x00, 0x01};
+    static const uint8_t exchanged[LIMITS_BYTES] = {0x00, 0x00, 0x10, 0x00, 0x00, 0x01};
+    return FAULT == 206 ? former : FAULT == 207 ? exchanged : limits;
+}
+
 /* ---- a command */
 
 static inline void act(struct session *s)
 {
-    static const uint8_t limits[LIMITS_BYTES] = {0x00, 0x01, 0x00, 0x00, 0x00, 0x01};
     switch (s->block[0]) {
     case REWIND: s->position = 0; break;
     case REQUEST_SENSE: request_sense(s); break;
-    case READ_BLOCK_LIMITS: hand_over(s, limits); break;
+    case READ_BLOCK_LIMITS: hand_over(s, block_limits()); break;
     case READ:
         if (is_fixed(s->block))
             read_fixed(s, (int64_t)fixed_count_of(s->block));
@@ -256,9 +284,10 @@ static inline int cartridge_fits(struct session *s, const uint64_t length[2])
 {
     if (!s->loaded)
         return 1;
+    reader = COMMAND_READS;
     if (!decode(&s->tape[0], s->image[0], length[0]))
         return 0;
-    if (s->partitions == 1 ? length[1] != 0 : !decode(&s->tape[1], s->image[1], length[1]))
+    if (s->partitions == 1 ? length[1] != 0 : !decode_second(&s->tape[1], s->image[1], length[1]))
         return 0;
     return s->position <= s->tape[s->current].count;
 }
@@ -313,7 +342,7 @@ static inline uint64_t model_command(uint8_t *record, size_t record_length, cons
     s->block = block_length == 0 ? NULL : block;
     if (block_length == 0 || block_length < block_bytes(block[0]))
         return refused_command(s, BY_COMMAND);
-    if (!record_is_well_formed(record, record_length))
+    if (!record_is_well_formed(record, record_length, 0))
         return refused_command(s, BY_DRIVE);
     s->image[0] = p0;
     s->image[1] = p1;
@@ -332,7 +361,8 @@ static inline uint64_t model_command(uint8_t *record, size_t record_length, cons
     lay_fields(s, record);
     crossed_before = s->crossed;
     residue_before = s->check_condition && !fits_32_bits(s->residue) ? s->residue : 0;
-    return answered(s->check_condition, cut(cut(cut(s->carried, 20, 24), 21, 28), 31, 29), told_as_crossed(s));
+    s->carried = cut(cut(cut(cut(cut(s->carried, 20, 24), 21, 28), 31, 29), 211, 16), 212, 20);
+    return answered(s->check_condition, s->carried, told_as_crossed(s));
 }
 
 #endif

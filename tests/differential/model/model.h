@@ -22,6 +22,10 @@ static inline uint64_t capped(uint64_t number, int fault, unsigned bits)
     return FAULT == fault && number > UINT64_C(1) << bits ? UINT64_C(1) << bits : number;
 }
 
+/* The largest block that there was before 02: "Raise the largest block from 65,536 to 1,048,576 bytes". Its slips leave
+ * it somewhere, and what is lawful since then lies right behind it. */
+enum { LARGEST_BEFORE = 65536 };
+
 /* ---- bytes */
 
 /* Lays bytes, and stores only where some differ, so that what is sparse stays so. */
@@ -105,6 +109,21 @@ static inline int is_passed_by(uint64_t object, uint64_t count)
     return FAULT == 37 && object >= AT_A_TIME && object >= count - count % AT_A_TIME;
 }
 
+/* "What an entry promises about its block changes for everyone who reads one": for the slips that change it for all but
+ * one, who reads. */
+enum reader { MOUNT_READS = 190, VIEW_READS = 191, COMMAND_READS = 192, SECOND_IS_READ = 193, PROTECTION_READS = 194 };
+static enum reader reader;
+
+/* Whether a block may have so many bytes. */
+static inline int is_block(int64_t size)
+{
+    int is_left = FAULT == 187 || (FAULT != 0 && FAULT == (int)reader);
+    int64_t largest = is_left ? LARGEST_BEFORE : LARGEST_BLOCK + (FAULT == 188);
+    if (FAULT == 189 && size > 0)
+        size = (int64_t)cut((uint64_t)size, 189, 20);
+    return size >= 1 && size <= largest;
+}
+
 /* Whether the image is sound; its objects are known only then. */
 static inline int decode(struct tape *tape, const uint8_t *image, uint64_t length)
 {
@@ -127,7 +146,7 @@ static inline int decode(struct tape *tape, const uint8_t *image, uint64_t lengt
         uint32_t entry = get32(image + entry_at(length, i));
         struct object object = {end, entry & ENTRY_END, (entry & ENTRY_FILEMARK) != 0};
         int64_t size = (int64_t)object.end - (int64_t)carried_to(i, end, tape, image, count);
-        int follows = object.is_filemark ? size == 0 : size >= 1 && size <= LARGEST_BLOCK;
+        int follows = object.is_filemark ? size == 0 : is_block(size);
         if (!follows && !is_passed_by(i, count))
             return 0;
         tape->objects[i] = object;
@@ -138,6 +157,12 @@ static inline int decode(struct tape *tape, const uint8_t *image, uint64_t lengt
     tape->count = cut(cut(count, 11, 20), 12, 24);
     tape->is_protected = flags == FLAG_PROTECTED;
     return 1;
+}
+
+static inline int decode_second(struct tape *tape, const uint8_t *image, uint64_t length)
+{
+    reader = FAULT == SECOND_IS_READ ? SECOND_IS_READ : reader;
+    return decode(tape, image, length);
 }
 
 /* end(n): where the data of the objects before n ends. */
@@ -202,7 +227,13 @@ static inline uint64_t left_over(int fault)
 
 static const uint8_t nothing_told[SENSE_BYTES] = EMPTY_SENSE;
 
-static inline int record_is_well_formed(const uint8_t *record, uint64_t length)
+/* The slips leave the bound for all who lend a record, or for the mount alone, or set it one too high. */
+static inline uint32_t largest_in_record(int by_mount)
+{
+    return FAULT == 195 || (FAULT == 197 && by_mount) ? LARGEST_BEFORE : LARGEST_BLOCK + (FAULT == 196);
+}
+
+static inline int record_is_well_formed(const uint8_t *record, uint64_t length, int by_mount)
 {
     uint8_t loaded, partitions, current, attention;
     if (length != RECORD_BYTES)
@@ -213,7 +244,7 @@ static inline int record_is_well_formed(const uint8_t *record, uint64_t length)
     attention = record[STORMTOGGLE_RECORD_ATTENTION];
     if (attention != ATTENTION_NONE && attention != ATTENTION_MOUNTED && attention != ATTENTION_FRESH)
         return 0;
-    if (get32(record + STORMTOGGLE_RECORD_BLOCK_LENGTH) > LARGEST_BLOCK)
+    if (get32(record + STORMTOGGLE_RECORD_BLOCK_LENGTH) > largest_in_record(by_mount))
         return 0;
     if (loaded == 0)
         return partitions == 0 && current == 0 && get32(record + STORMTOGGLE_RECORD_POSITION) == 0;
@@ -235,6 +266,7 @@ static inline uint32_t length_mounted(uint32_t before, int partitions)
     case 140: return LARGEST_BLOCK;
     case 141: return 512;
     case 142: return MOUNTED_LENGTH - 1;
+    case 208: return LARGEST_BEFORE;
     default: return MOUNTED_LENGTH;
     }
 }
@@ -277,6 +309,7 @@ static inline uint64_t model_protect(uint8_t *image, size_t length, uint64_t on)
     uint8_t *flag;
     if (!length_is_lawful(length))
         return refused(BY_LENGTH);
+    reader = PROTECTION_READS;
     if (!decode(&tape, image, length))
         return refused(BY_UNSOUND);
     /* Flag bit 0 is the lowest of a big-endian word, in its last byte. */
@@ -291,13 +324,14 @@ static inline uint64_t model_mount(uint8_t *record, size_t record_length, const 
     static struct tape tape;
     int second_is_absent = p1_length == 0;
     uint32_t length_before;
-    if (!record_is_well_formed(record, record_length))
+    if (!record_is_well_formed(record, record_length, 1))
         return refused(BY_DRIVE);
     if (record[STORMTOGGLE_RECORD_LOADED] == 1)
         return refused_mount(record, BY_LOADED);
     if (!length_is_lawful(p0_length) || !(second_is_absent || length_is_lawful(p1_length)))
         return refused_mount(record, BY_LENGTH);
-    if (!decode(&tape, p0, p0_length) || !(second_is_absent || decode(&tape, p1, p1_length)))
+    reader = MOUNT_READS;
+    if (!decode(&tape, p0, p0_length) || !(second_is_absent || decode_second(&tape, p1, p1_length)))
         return refused_mount(record, BY_UNSOUND);
     length_before = get32(record + STORMTOGGLE_RECORD_BLOCK_LENGTH);
     memset(record, 0, RECORD_BYTES);
@@ -316,12 +350,13 @@ static inline uint64_t model_view(const uint8_t *p0, size_t p0_length, const uin
     const struct object *block;
     if (partition > 1)
         return 0;
+    reader = VIEW_READS;
     if (!decode(&tape, partition == 0 ? p0 : p1, partition == 0 ? p0_length : p1_length) || object >= tape.count)
         return 0;
     block = &tape.objects[object];
     if (block->is_filemark)
         return 0;
-    return (uint64_t)block->start << VIEW_START | (block->end - block->start);
+    return (uint64_t)block->start << VIEW_START | cut(block->end - block->start, 218, 20);
 }
 
 #endif

@@ -233,6 +233,20 @@ static inline int has_no_length(const struct session *s)
     return s->block_length == 0 || slips_as_mounted(s, 149);
 }
 
+/* FIXED needs a length; the slip has none above the largest block that there was. */
+static inline int has_no_fixed(const struct session *s)
+{
+    return has_no_length(s) || (FAULT == 219 && s->block_length > LARGEST_BEFORE);
+}
+
+/* "variable length above" the largest block "is a field error", whatever is loaded. */
+static inline int is_too_large(const struct session *s, uint32_t bytes)
+{
+    if (FAULT == 205 && !s->loaded)
+        return 0;
+    return bytes > (FAULT == 203 ? LARGEST_BEFORE : LARGEST_BLOCK + (uint32_t)(FAULT == 204));
+}
+
 /* The slips take one bit of REQUEST SENSE's byte 1 more, or none. */
 static inline uint8_t mask_of(const struct served *served, unsigned byte)
 {
@@ -249,8 +263,11 @@ static inline int fields_are_wrong(const struct session *s, const struct served 
         if (block[i] & ~mask_of(served, i))
             return 1;
     switch (block[0]) {
-    case READ: return is_fixed(block) && (block[1] & SILI || has_no_length(s));
-    case WRITE: return is_fixed(block) ? has_no_length(s) : count_of(block) > LARGEST_BLOCK;
+    case READ:
+        if (is_fixed(block))
+            return block[1] & SILI || has_no_fixed(s);
+        return FAULT == 214 && is_too_large(s, count_of(block));
+    case WRITE: return is_fixed(block) ? has_no_fixed(s) : is_too_large(s, count_of(block));
     case SPACE: case SPACE_16: return block[1] != BLOCKS && block[1] != FILEMARKS && block[1] != TO_END_OF_DATA;
     case MODE_SELECT: return (block[1] & PF) == 0;
     case MODE_SENSE: return block[AT_PAGE] != PAGE_NONE && block[AT_PAGE] != PAGE_ALL;
@@ -260,9 +277,14 @@ static inline int fields_are_wrong(const struct session *s, const struct served 
     }
 }
 
+/* The product of a count and a block length takes 45 bits. */
 static inline uint64_t transfer_bytes(const struct session *s)
 {
-    return is_fixed(s->block) ? fixed_count_of(s->block) * s->block_length : count_of(s->block);
+    if (is_fixed(s->block))
+        return cut(cut(fixed_count_of(s->block) * s->block_length, 209, 32), 210, 40);
+    if (FAULT == 215 && s->block[0] == READ)
+        return smaller(count_of(s->block), LARGEST_BLOCK);
+    return count_of(s->block);
 }
 
 static inline uint64_t bytes_to_take(const struct session *s)
