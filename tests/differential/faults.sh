@@ -3,8 +3,9 @@
 # the model, or, where a store may not go, behind the library; those marked so, the run with the largest work. The slips
 # of the directory's check are shown to tests/differential/damage.c too, and some to it alone; those of the movement by
 # sixteen bytes come next, then those of end of data, those of the objects crossed, those of two moves or one, which are
-# seeded in the rule that holds the calls to each other, those of the block length that a mount sets, and last those of
-# sense in descriptor form, of which the last are seeded in the readers that hold both forms to each other.
+# seeded in the rule that holds the calls to each other, those of the block length that a mount sets, those of sense in
+# descriptor form, of which the last are seeded in the readers that hold both forms to each other, and last those of the
+# largest block, of which the first are the directory's too.
 # LIBRARY names another archive than the one that is built here from the sources.
 set -u
 cd "$(dirname "$0")/../.." || exit 2
@@ -206,7 +207,7 @@ slips+=(
     "a mount sets 32,768 only where it was 0, and keeps what was selected"
     "a mount of two partitions sets 0"
     "a mount of one partition sets 0"
-    "a mount sets 65,536, the largest there is"
+    "a mount sets 1,048,576, the largest there is"
     "a mount sets 512"
     "a mount sets 32,767"
     "a mount refused by 5 sets 32,768 on the loaded drive"
@@ -261,4 +262,54 @@ slips+=(
     "a host that takes byte 7 for the number of all bytes"
 )
 show_from "$described" "on sense in descriptor form"
+
+# Slips of the largest block, each with the wrong answer that it gives. Those of the directory's check come first, and
+# of these the last is protection's, by which no damaged directory is judged.
+large=${#slips[@]}
+slips+=(
+    "the image rule left at 65,536, a block of 65,537 is unsound"
+    "the image rule one too high, a block of 1,048,577 is sound"
+    "a block's length in an entry compared in 20 bits, 1,048,576 is none and 1,048,577 is 1"
+    "the image rule left at 65,536 for the mount alone, 6"
+    "the image rule left at 65,536 for the view alone, the empty part"
+    "the image rule left at 65,536 for commands alone, 4"
+    "the image rule left at 65,536 for partition 1 alone, 6 by a mount and 4 by a command"
+    "the image rule left at 65,536 for protection alone, 6"
+)
+protection=$((${#slips[@]} - 1))
+slips+=(
+    "the record's rule left at 65,536, 4 for 65,537"
+    "the record's rule one too high, 1,048,577 is well formed"
+    "the record's rule left at 65,536 for the mount alone, 4 and no 5 while loaded"
+    "MODE SELECT left at 65,536, 5/26/00 for 65,537"
+    "MODE SELECT of 1,048,577 accepted, no 5/26/00"
+    "MODE SELECT sets the low 16 bits, 1 for 65,537"
+    "MODE SELECT sets the low 20 bits, 0 for 1,048,576"
+    "MODE SENSE tells the low 16 bits, 00 00 01 for 65,537"
+    "a variable WRITE's field error left at 65,536, 5/24/00 for 65,537"
+    "a variable WRITE of 1,048,577 accepted, no 5/24/00"
+    "a variable WRITE's length judged after the cartridge, 2/3A/00 and no 5/24/00 for 1,048,577"
+    "READ BLOCK LIMITS as 01 had it, 00 01 00 00 00 01"
+    "READ BLOCK LIMITS with two bytes exchanged, 00 00 10 00 00 01"
+    "a mount sets 65,536, the largest there was"
+    "length x block length in 32 bits, nothing is needed for 4,096 x 1,048,576"
+    "length x block length in 40 bits, nothing is needed for 1,048,576 x 1,048,576"
+    "bytes carried cut to 16 bits, 0 for 65,536"
+    "bytes carried cut to 20 bits, 0 for 1,048,576"
+    "of a larger block 65,536 bytes are laid, and all of them told as carried"
+    "a variable READ above 1,048,576 a field error, 5/24/00"
+    "number 3 asks a variable READ for 1,048,576 bytes at most, however many it may need"
+    "a shorter block's information cut to 20 bits, 0 for 1,048,577 of a block of 1"
+    "the residue of a variable WRITE cut to 20 bits, 0 for 1,048,576"
+    "the length of a view cut to 20 bits, 0 for 1,048,576"
+    "FIXED under a block length above 65,536 a field error, 5/24/00"
+    "where FIXED WRITE takes a block from cut to 20 bits, the second of 1,048,576 is the first again"
+    "where FIXED READ lays a block cut to 20 bits, the second of 1,048,576 over the first"
+    "FIXED READ compares lengths in 16 bits, a block of 1 is one of 65,537"
+)
+show_from "$large" "on the largest block"
+echo "on damaged directories"
+for fault in $(seq "$large" $((protection - 1))); do
+    run_with_slip "$fault" "${slips[fault]}" tests/differential/damage.c 1 || failed=1
+done
 exit "$failed"

@@ -8,7 +8,7 @@
 
 /* ---- the rooms */
 
-/* Room for four of the largest blocks and more. They are sparse, as most calls store to none or little of it. */
+/* For four of the largest blocks and more. They are sparse, as most calls store to little of them, or to nothing. */
 enum { LARGE_BYTES = 20 * PIECE };
 static struct twin large_rooms[SLICES];
 
@@ -46,11 +46,6 @@ static inline size_t length_that_fits(uint64_t bytes, enum fit fit)
     }
 }
 
-static inline uint32_t any_block_length(void)
-{
-    return one_in(2) ? 0 : size_bytes[draw(ABOVE_LARGEST)];
-}
-
 static inline size_t length_beside(enum slice partition)
 {
     return partition == P1 || one_in(2) ? SHORTEST + draw(100) : 0;
@@ -67,7 +62,7 @@ static inline void read_large(uint8_t byte_1, uint64_t count)
     call_command();
 }
 
-/* Every request over the object at the position, each with a byte too few first. */
+/* Every request over an object, each with a byte too few first. */
 static inline void read_each(uint64_t object, uint8_t byte_1)
 {
     for (int size = 0; size < SIZES; size++) {
@@ -87,21 +82,33 @@ static inline void read_none(void)
     }
 }
 
-/* A block of this size, then a filemark if one fits. With more room than that a block length is set, under which SILI
- * tells a longer block. */
+/* A byte alone, of which more than the largest block is asked for. */
+static inline void read_one_byte(void)
+{
+    send(LOCATE, CP, 2);
+    send(WRITE, 0, 1);
+    send(LOCATE, CP, 2);
+    read_large(0, LARGEST_BLOCK + 1);
+}
+
+/* A block of this size, then a filemark if one fits; before them one that is too large, be there room for it or not.
+ * With more room than they take a block length is set, under which SILI tells a longer block. */
 static inline void run_variable(enum size size, enum fit fit)
 {
     enum slice partition = either_partition();
     uint64_t bytes = size_bytes[size];
     uint32_t block_length = fit == HAS_MORE ? size_bytes[draw(ABOVE_LARGEST)] : 0;
     load_blank(partition, length_that_fits(ENTRY + bytes, fit), length_beside(partition), block_length);
+    send(WRITE, 0, LARGEST_BLOCK + 1);
     send_one_byte_short(WRITE, 0, bytes);
     send(WRITE, 0, bytes);
     send(WRITE_FILEMARKS, 0, 1);
     view_of(0);
     read_each(0, fit == HAS_MORE ? SILI : 0);
-    if (fit == HAS_MORE)
+    if (fit == HAS_MORE) {
         read_none();
+        read_one_byte();
+    }
     send(LOCATE, CP, 0);
     read_large(fit == HAS_MORE ? 0 : SILI, 1 + draw(bytes));
 }
@@ -110,7 +117,7 @@ static inline void run_variable(enum size size, enum fit fit)
 
 /* Beside the length that is set, or the same by its low 16 bits; a block has at least one byte, and no more than it
  * may. */
-static inline uint64_t length_beside_of(uint32_t bytes)
+static inline uint64_t odd_beside(uint32_t bytes)
 {
     const uint64_t lengths[] = {1, bytes - 1, bytes + 1, bytes + (uint64_t)LARGEST_BEFORE, bytes - LARGEST_BEFORE};
     uint64_t length = lengths[draw(COUNT(lengths))];
@@ -121,7 +128,7 @@ static inline uint64_t length_beside_of(uint32_t bytes)
 static inline void change_objects(uint32_t bytes)
 {
     send(LOCATE, CP, 1);
-    send(WRITE, 0, length_beside_of(bytes));
+    send(WRITE, 0, odd_beside(bytes));
     send(LOCATE, CP, 0);
     read_large(FIXED, 2);
     send(LOCATE, CP, 1);
@@ -170,10 +177,11 @@ static inline void run_products(unsigned turn)
 
 /* ---- the block length */
 
-/* Selected, and told; beside the sizes such as are so by some of their bits alone. */
+/* Selected, and told; before it one that is none of the sizes, and mostly too large. */
 static inline void select_size(enum size size)
 {
-    static const uint32_t others[] = {COUNT_MOST, LARGEST_BLOCK | LARGEST_BEFORE, 2 * LARGEST_BLOCK, LARGEST_BEFORE - 1};
+    static const uint32_t others[] = {
+        LARGEST_BEFORE - 1, LARGEST_BLOCK + LARGEST_BEFORE, 2 * LARGEST_BLOCK, COUNT_MOST};
     set_length_of_blocks(others[draw(COUNT(others))]);
     set_length_of_blocks(size_bytes[size]);
     send(MODE_SENSE, 0, MODE_BYTES);
@@ -226,7 +234,7 @@ static inline void run_lengths(enum size size)
 
 /* Lays a directory in which one block alone decides: what lies around it is lawful, and was so before. Returns which
  * object it is. */
-static inline size_t lay_promise(enum slice slice, uint32_t bytes)
+static inline size_t lay_promise(enum slice slice, uint32_t bytes, size_t spare)
 {
     size_t count = 1 + draw(4), decides = draw(count), length, end = 0;
     uint32_t entries[4];
@@ -236,7 +244,7 @@ static inline size_t lay_promise(enum slice slice, uint32_t bytes)
         end += size;
         entries[i] = (uint32_t)end | (size == 0 ? ENTRY_FILEMARK : 0);
     }
-    length = TRAILER + ENTRY * count + end + (one_in(2) ? 0 : draw(LARGEST_BLOCK));
+    length = TRAILER + ENTRY * count + end + spare;
     place(slice, length);
     for (size_t i = 0; i < count; i++)
         lay_word(slice, entry_at(length, i), entries[i]);
@@ -252,32 +260,57 @@ static inline void note_verdict(enum size size, enum size_kind sound, enum size_
     note_size(is_sound ? sound : unsound, size, !is_over());
 }
 
-/* Judged by each that reads a directory, as a partition of the work's and beside one that is current. */
-static inline void run_promise(enum size size, enum slice partition)
+/* By the house services that read a directory. */
+static inline void judge_by_house(enum size size, uint64_t decides)
 {
-    enum slice other = (enum slice)(P0 + P1 - partition);
-    size_t decides;
     uint64_t answer;
-    uint8_t current = partition == P0 ? 1 : 0;
-    vast = partition;
-    place(other, SHORTEST);
-    call_blank(other);
-    decides = lay_promise(partition, size_bytes[size]);
     place(RECORD, RECORD_BYTES);
     call_fresh();
     answer = call_mount();
     note_verdict(size, SOUND_BY_MOUNT, UNSOUND_BY_MOUNT, STORMTOGGLE_REFUSAL(answer) == 0);
-    answer = make_call((struct call){.service = PROTECT, .image = partition, .number_1 = one_in(2)});
+    answer = make_call((struct call){.service = PROTECT, .image = vast, .number_1 = one_in(2)});
     note_verdict(size, SOUND_BY_PROTECTION, UNSOUND_BY_PROTECTION, STORMTOGGLE_REFUSAL(answer) == 0);
-    answer = make_call((struct call){.service = VIEW, .number_1 = partition == P1, .number_2 = decides});
+    answer = make_call((struct call){.service = VIEW, .number_1 = vast == P1, .number_2 = decides});
     note_verdict(size, SOUND_BY_VIEW, UNSOUND_BY_VIEW, answer != 0);
-    lay_record(1);
-    lay(RECORD, STORMTOGGLE_RECORD_PARTITIONS, (const uint8_t[]){2, 1 - current, ATTENTION_NONE, 0, 0, 0, 0}, 7);
+}
+
+/* By a command on that partition, and on the one beside it. */
+static inline void judge_by_command(enum size size)
+{
+    const uint8_t beside = vast == P0, places[] = {1, 2, !beside, ATTENTION_NONE, 0, 0, 0, 0};
+    uint64_t answer;
+    lay_record(0);
+    lay(RECORD, STORMTOGGLE_RECORD_LOADED, places, sizeof places);
     answer = send(TEST_UNIT_READY, 0, 0);
     note_verdict(size, SOUND_BY_COMMAND, UNSOUND_BY_COMMAND, STORMTOGGLE_REFUSAL(answer) == 0);
-    lay(RECORD, STORMTOGGLE_RECORD_CURRENT, &current, 1);
+    lay(RECORD, STORMTOGGLE_RECORD_CURRENT, &beside, 1);
     answer = send(TEST_UNIT_READY, 0, 0);
     note_verdict(size, SOUND_BESIDE, UNSOUND_BESIDE, STORMTOGGLE_REFUSAL(answer) == 0);
+}
+
+/* To an image as there were before 02 a block is added that none of them has. */
+static inline void add_larger(void)
+{
+    uint64_t answer;
+    protect_vast(0);
+    send(LOCATE_16, CP | TO_END, 0);
+    answer = send(WRITE, 0, LARGEST_BEFORE + 1);
+    sized.added += STORMTOGGLE_CARRIED(answer) == LARGEST_BEFORE + 1;
+    view_of(objects_in(vast) - 1);
+}
+
+static inline void run_promise(enum size size, enum slice partition)
+{
+    enum slice other = (enum slice)(P0 + P1 - partition);
+    size_t spare = size == AT_BEFORE ? 2 * LARGEST_BEFORE : one_in(2) ? 0 : draw(LARGEST_BLOCK), decides;
+    vast = partition;
+    place(other, SHORTEST);
+    call_blank(other);
+    decides = lay_promise(partition, size_bytes[size], spare);
+    judge_by_house(size, decides);
+    judge_by_command(size);
+    if (size == AT_BEFORE)
+        add_larger();
 }
 
 /* ---- the work */
@@ -287,7 +320,8 @@ static inline void run_large_calls(enum size size, enum fit fit)
 {
     enum slice partition = either_partition();
     uint64_t bytes = ((uint64_t)ENTRY + size_bytes[size]) * (1 + draw(2));
-    load_blank(partition, length_that_fits(bytes, fit), length_beside(partition), any_block_length());
+    uint32_t block_length = one_in(2) ? 0 : size_bytes[draw(ABOVE_LARGEST)];
+    load_blank(partition, length_that_fits(bytes, fit), length_beside(partition), block_length);
     run_calls(20);
 }
 

@@ -271,7 +271,8 @@ static inline void report_sizes(void)
                shown(sized.products[i][1]));
     printf("; 2^32 bytes and more lent, some put %lu, some got %lu\n", shown(sized.lent_in_full[0]),
            shown(sized.lent_in_full[1]));
-    printf("READ BLOCK LIMITS, nothing loaded %lu, loaded %lu\n", shown(sized.limits[0]), shown(sized.limits[1]));
+    printf("a block of 65,537 added to an older image %lu; READ BLOCK LIMITS, nothing loaded %lu, loaded %lu\n",
+           shown(sized.added), shown(sized.limits[0]), shown(sized.limits[1]));
 }
 
 static inline void report_read_only(void)

@@ -1,6 +1,6 @@
-/* sizes.h: what calls have come to with blocks and block lengths on the bounds of the largest block, of the largest that
- * there was before 02, and between them, kind by kind, counted by the model's answers, the records and the partitions'
- * own bytes. */
+/* sizes.h: what calls have come to with blocks and block lengths on the bounds of the largest block, of the largest
+ * that there was before 02, and between them, kind by kind, counted by the model's answers, the records and the
+ * partitions' own bytes. */
 #ifndef SIZES_H
 #define SIZES_H
 
@@ -16,9 +16,9 @@ static const char *const size_names[SIZES] = {"65,536", "65,537", "800,000", "1,
  * record is lent, or MODE SELECT and MODE SENSE name; by the block that decides whether an image is sound. */
 enum size_kind {
     SIZE_PUT, SIZE_PUT_INTO_ZONE, SIZE_FILLS, SIZE_LACKS_A_BYTE, SIZE_SENT_SHORT, SIZE_PROTECTED, SIZE_NOT_READY,
-    WRONG_LOADED, WRONG_PROTECTED, WRONG_UNLOADED, WRONG_AND_SHORT,
+    WRONG_LOADED, WRONG_WITH_ROOM, WRONG_PROTECTED, WRONG_UNLOADED, WRONG_AND_SHORT,
     SIZE_GOT, SIZE_OF_LONGER, SIZE_OF_SHORTER, SIZE_SILI_TELLS, SIZE_SILI_HIDES, SIZE_RECEIVED_SHORT, SIZE_AT_MARK,
-    SIZE_AT_END, BLOCK_CUT, BLOCK_VIEWED,
+    SIZE_AT_END, SIZE_OF_A_BYTE, BLOCK_CUT, BLOCK_VIEWED,
     FIXED_PUT_1, FIXED_PUT_SEVERAL, FIXED_PUT_SOME, FIXED_PUT_NONE, FIXED_SENT_SHORT, FIXED_GOT_1, FIXED_GOT_SEVERAL,
     FIXED_GOT_ODD, FIXED_THEN_ODD, FIXED_THEN_MARK, FIXED_THEN_END, FIXED_RECEIVED_SHORT,
     SELECTED_LOADED, SELECTED_UNLOADED, NOT_SELECTED_LOADED, NOT_SELECTED_UNLOADED, LENGTH_SENSED,
@@ -41,6 +41,7 @@ static const struct {
     [SIZE_PROTECTED] = {"variable WRITE, 7/27/00", AT_BEFORE, AT_LARGEST},
     [SIZE_NOT_READY] = {"variable WRITE, 2/3A/00", AT_BEFORE, AT_LARGEST},
     [WRONG_LOADED] = {"variable WRITE, 5/24/00", ABOVE_LARGEST, ABOVE_LARGEST},
+    [WRONG_WITH_ROOM] = {"variable WRITE, 5/24/00, room for it", ABOVE_LARGEST, ABOVE_LARGEST},
     [WRONG_PROTECTED] = {"variable WRITE, 5/24/00, protected", ABOVE_LARGEST, ABOVE_LARGEST},
     [WRONG_UNLOADED] = {"variable WRITE, 5/24/00, nothing loaded", ABOVE_LARGEST, ABOVE_LARGEST},
     [WRONG_AND_SHORT] = {"variable WRITE, 5/24/00, too few bytes sent", ABOVE_LARGEST, ABOVE_LARGEST},
@@ -52,6 +53,7 @@ static const struct {
     [SIZE_RECEIVED_SHORT] = {"variable READ, a byte short, refused by 3", AT_BEFORE, ABOVE_LARGEST},
     [SIZE_AT_MARK] = {"variable READ, a filemark", AT_BEFORE, ABOVE_LARGEST},
     [SIZE_AT_END] = {"variable READ, end of data", AT_BEFORE, ABOVE_LARGEST},
+    [SIZE_OF_A_BYTE] = {"variable READ, a block of 1, ILI", ABOVE_LARGEST, ABOVE_LARGEST},
     [BLOCK_CUT] = {"a block of which READ asks for less", AT_BEFORE, AT_LARGEST},
     [BLOCK_VIEWED] = {"a block viewed", AT_BEFORE, AT_LARGEST},
     [FIXED_PUT_1] = {"FIXED WRITE of 1, put", AT_BEFORE, AT_LARGEST},
@@ -100,6 +102,7 @@ static const char *const product_names[PRODUCTS] = {"4,096", "4,097", "1,048,576
 static struct {
     unsigned long kinds[SIZE_KINDS][SIZES];
     unsigned long products[PRODUCTS][2]; /* refused by 2, and by 3 */
+    unsigned long added;                 /* blocks of 65,537 to an image that has none above 65,536 */
     unsigned long limits[2];             /* READ BLOCK LIMITS with nothing loaded, and with something */
     unsigned long lent_in_full[2];       /* 2^32 bytes and more in the largest blocks, some of them put, and got */
 } sized;
@@ -139,6 +142,8 @@ static inline void count_sized_write(enum size size, uint32_t told, const uint8_
     note_size(SIZE_PROTECTED, size, told == TOLD_PROTECTED);
     note_size(SIZE_NOT_READY, size, told == TOLD_NOT_LOADED);
     note_size(WRONG_LOADED, size, is_wrong && loaded && !is_protected_in(slice));
+    note_size(WRONG_WITH_ROOM, size,
+              is_wrong && loaded && room_in(slice, position_in(before)) >= (uint64_t)ENTRY + size_bytes[size]);
     note_size(WRONG_PROTECTED, size, is_wrong && loaded && is_protected_in(slice));
     note_size(WRONG_UNLOADED, size, is_wrong && !loaded);
     note_size(WRONG_AND_SHORT, size, is_wrong && twins[SENT].length < size_bytes[size]);
@@ -165,6 +170,7 @@ static inline void count_sized_read(const uint8_t *block, uint32_t told, uint64_
     note_size(SIZE_GOT, size, is_good && bytes == asked);
     note_size(SIZE_OF_LONGER, size, told == TOLD_LENGTH && bytes > asked && !hides);
     note_size(SIZE_OF_SHORTER, size, told == TOLD_LENGTH && bytes < asked);
+    note_size(SIZE_OF_A_BYTE, size, told == TOLD_LENGTH && bytes == 1);
     note_size(SIZE_SILI_TELLS, size, told == TOLD_LENGTH && bytes > asked && hides);
     note_size(SIZE_SILI_HIDES, size, is_good && bytes < asked);
 }

@@ -311,6 +311,7 @@ static inline void run_longest(enum slice partition)
     send(LOCATE, CP, count - 3);
     send(READ, 0, LARGEST_BLOCK);
     send(READ, SILI, COUNT_MOST);
+    send(READ, 0, COUNT_MOST);
     send_back(BLOCKS, 1);
     send(WRITE, 0, LARGEST_BLOCK - draw(9));
     send(WRITE_FILEMARKS, 0, 3);
