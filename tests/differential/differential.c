@@ -234,7 +234,7 @@ int main(int arguments, char **argument)
             run_near_end();
         if (round % 8 == 4)
             run_mounted();
-        if (round % 8 == 6)
+        if (round % 4 == 2)
             run_large();
         if (round % 16 == 0) {
             run_left_over();
