@@ -109,8 +109,8 @@ static inline int is_passed_by(uint64_t object, uint64_t count)
     return FAULT == 37 && object >= AT_A_TIME && object >= count - count % AT_A_TIME;
 }
 
-/* "What an entry promises about its block changes for everyone who reads one": for the slips that change it for all but
- * one, who reads. */
+/* "What an entry promises about its block changes for everyone who reads one": who reads, for the slips that leave it
+ * as it was for one of them. */
 enum reader { MOUNT_READS = 190, VIEW_READS = 191, COMMAND_READS = 192, SECOND_IS_READ = 193, PROTECTION_READS = 194 };
 static enum reader reader;
 

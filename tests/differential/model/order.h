@@ -277,7 +277,7 @@ static inline int fields_are_wrong(const struct session *s, const struct served 
     }
 }
 
-/* The product of a count and a block length takes 45 bits. */
+/* The product of a count and a block length takes up to 44 bits. */
 static inline uint64_t transfer_bytes(const struct session *s)
 {
     if (is_fixed(s->block))
