@@ -5,4 +5,5 @@ pub mod EndOfData
 pub mod Crossed
 pub mod Merged
 pub mod Mounted
+pub mod Larger
 pub mod Descriptors

@@ -46,7 +46,7 @@ abbrev mountsTwo : List ℕ → Mounting
 mountsTwo rec = record { rec = rec; part0 = E; part1 = bare64; leaves = settled done (mountedRecord 2) }
 
 -- refused: every byte stays
-abbrev mountRefused : ℕ → List ℕ → List ℕ → List ℕ → Mounting
+abbrev pub mountRefused : ℕ → List ℕ → List ℕ → List ℕ → Mounting
 mountRefused n rec p0 p1 = record { rec = rec; part0 = p0; part1 = p1; leaves = settled (refused n) rec }
 
 unfoldable pub mountings : List Mounting
@@ -72,7 +72,7 @@ FreshLeaves0 rec = freshCall rec ≡ settled done ((0 ∷ 0 ∷ 0 ∷ 0x29 ∷ [
 
 -- ---- calls of a drive that a mount has left in blocks of 32,768 bytes, at a position; beside them those of one with block length 0
 
-abbrev started : ℕ → List ℕ → List ℕ
+abbrev pub started : ℕ → List ℕ → List ℕ
 started position sense = loaded 0 position mountedBlockLength sense
 
 abbrev variable : ℕ → List ℕ → List ℕ
@@ -83,7 +83,7 @@ abbrev aBlock : List ℕ
 aBlock = replicate mountedBlockLength 7
 
 -- a buffer of n bytes that shows what is not carried
-abbrev nines : ℕ → List ℕ
+abbrev pub nines : ℕ → List ℕ
 nines n = replicate n 9
 
 -- E with three bytes more

@@ -3,14 +3,14 @@
 use Prim.Native.Nat.{ℕ, zero, suc, _+_, _≤_}
 use native.Mathlib.Omega.{arith}
 use mathlib.Core.Path.{_≡_, refl}
-use mathlib.Core.Bool.{true, _&&_}
+use mathlib.Core.Bool.{true}
 use mathlib.Core.Option.{some}
 use mathlib.Core.List.{List, [], _∷_, _++_}
 use borrow.Author.Tests.{le-leb, leb-true}
 use lib.Dec.{leb}
 use lib.ListN.{length, take, drop, getElem?, length-take}
 use Rattle.objects.specs.Object.{Object, filemark, block, dataOf}
-use Rattle.objects.specs.Events.{Event, put, cut, happen, happens}
+use Rattle.objects.specs.Events.{cut, happen, happens}
 use Rattle.objects.specs.Transfer.{blocksOf, marksOf, putFrom}
 use Rattle.image.proofs.Tests.{both}
 use Rattle.larger.specs.Rules.{noneAbove}

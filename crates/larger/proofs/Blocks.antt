@@ -1,42 +1,39 @@
 -- A variable WRITE of a block of any length from 1 to 1,048,576 bytes: where it fits it is put whole, where it does not nothing changes; of a longer one
 -- a field is wrong.
 -- Assumes nothing.
-use Prim.Native.Nat.{ℕ, suc, _+_, _*_, _-_, _^_, _≤_, _<_, zero-le}
+use Prim.Native.Nat.{ℕ, suc, _+_, _-_, _≤_, _<_, zero-le}
 use native.Mathlib.Omega.{arith}
 use mathlib.Core.Path.{_≡_, refl, sym, ap, ap₂, _∙_}
-use mathlib.Core.Bool.{Bool, true, false, cond, not, _&&_}
+use mathlib.Core.Bool.{Bool, true, false, cond}
 use mathlib.Core.Option.{none, some}
 use mathlib.Core.List.{List, [], _∷_}
 use borrow.Author.Tests.{eq-eqb, ne-eqb, le-ltb, lt-ltb}
-use lib.Dec.{eqb, ltb}
+use lib.Dec.{eqb}
 use lib.IntN.{ℤ, pos}
 use lib.ListN.{length, take}
 use lib.Seq.{length-take-le}
 use Rattle.words.specs.Words.{over}
 use Rattle.words.proofs.Laws.{over-nil}
 use Rattle.answers.specs.Answers.{checkCondition, answered, first}
-use Rattle.objects.specs.Object.{Object, block, dataOf, bytesIn, largestBlock}
+use Rattle.objects.specs.Object.{Object, block, bytesIn, largestBlock}
 use Rattle.objects.specs.Events.{put}
-use Rattle.objects.specs.Room.{trailerLength, entryLength, roomOf, fitsIn, zoneIn}
+use Rattle.objects.specs.Room.{roomOf, fitsIn, zoneIn}
 use Rattle.objects.specs.Transfer.{fitting, putFrom}
 use Rattle.objects.proofs.Residue.{all-left}
-use Rattle.image.specs.Image.{count, protected, endAt, room, fits, zone, objects}
-use Rattle.image.proofs.Facts.{Sound}
+use Rattle.image.specs.Image.{endAt, room, fits, zone, objects}
 use Rattle.image.proofs.Objects.{end-bytes}
 use Rattle.changes.specs.Changes.{occur, occurs}
-use Rattle.changes.proofs.Obeys.{Admits, Obeys, obeys, put-next}
+use Rattle.changes.proofs.Obeys.{Admits, obeys, put-next}
 use Rattle.sense.specs.Sense.{illegalRequest, invalidField, unqualified, plainly, senseBytes, emptySense}
 use Rattle.record.specs.declared.drive.Drive.{Drive}
 use Rattle.record.specs.Record.{noAttention, decodeOf, encodeOf, withSense}
 use Rattle.codes.specs.declared.operation.Operation.the-variants.{Write}
-use Rattle.codes.specs.Codes.{codeOf, operationOf, tooShort, masksHold}
-use Rattle.codes.specs.Fields.{fixedOf, transferOf}
-use Rattle.commands.specs.Act.{Seen, Deed, good, checked, carrying, at, warned, overflowed, goesDown, offered, wrote, writing, act, eventsOf}
+use Rattle.commands.specs.Act.{Deed, good, checked, carrying, at, warned, overflowed, goesDown, offered, wrote, writing, act, eventsOf}
 use Rattle.commands.specs.Tests.{fieldError, fieldFault, bytesAsked, taken, replyLength, needed, tests}
 use Rattle.commands.specs.Step.{statusOf, keptOf, stopped, acted}
-use Rattle.commands.specs.Call.{Lent, lent, Result, result, partition, looksAt, seenOf, seen, laidOut, applied, written, commandTests, commandCall}
-use Rattle.commands.proofs.Ends.{stoppedAt, call-stops, call-acts}
-use Rattle.commands.proofs.Faultless.{Well, fault-free, Inside, inside, seen-there}
+use Rattle.commands.specs.Call.{Lent, lent, result, looksAt, seenOf, seen, laidOut, applied, commandTests, commandCall}
+use Rattle.commands.proofs.Ends.{call-stops, call-acts}
+use Rattle.commands.proofs.Faultless.{fault-free, Inside, inside, seen-there}
 use Rattle.larger.specs.Blocks.{currentOf, Writes, blockSent, withBlock, blockPut, onlyTells}
 
 -- ---- one block that is offered goes down exactly if it fits

@@ -3,15 +3,14 @@
 -- Assumes nothing.
 use Prim.Native.Nat.{ℕ, _+_, _≤_}
 use native.Mathlib.Omega.{arith}
-use mathlib.Core.Path.{_≡_, refl, sym, ap, _∙_}
+use mathlib.Core.Path.{_≡_, refl, sym, _∙_}
 use mathlib.Core.Bool.{Bool, true, false, cond, not, _&&_, _||_}
 use mathlib.Core.List.{List, [], _∷_, _++_}
-use borrow.Author.Tests.{eqb-true, ne-eqb, le-leb, le-ltb, ltb-false}
+use borrow.Author.Tests.{eqb-true, le-leb, le-ltb, ltb-false}
 use lib.Dec.{eqb, leb, ltb}
 use lib.ListN.{length}
 use Rattle.words.specs.Words.{be, bytes}
 use Rattle.objects.specs.Object.{largestBlock}
-use Rattle.image.specs.Image.{sound, objects}
 use Rattle.record.specs.declared.drive.Drive.{Drive}
 use Rattle.record.specs.Record.{recordLength, decodeOf, attentionKnown, emptyHanded, placed, wellFormed, wellRecord}
 use Rattle.codes.specs.declared.operation.Operation.{Operation}
@@ -20,14 +19,14 @@ use Rattle.codes.specs.Codes.{numberOf, codeOf, operationOf}
 use Rattle.codes.specs.Fields.{fixedOf, transferOf, allocationOf}
 use Rattle.commands.specs.Kinds.{among}
 use Rattle.commands.specs.Parameters.{headerLength, wholeLength, blockLimits, headerRight, newLength, descriptorRight, listRight}
-use Rattle.commands.specs.Act.{Seen, Deed, giving, good, withLength, selecting, replyOf, act}
+use Rattle.commands.specs.Act.{Seen, Deed, giving, good, selecting, replyOf, act}
 use Rattle.commands.specs.Tests.{fieldError, tests}
 use Rattle.commands.specs.Step.{acted, step}
-use Rattle.commands.specs.Call.{Lent, Result, seen, inserted, stepOf, called, commandCall}
+use Rattle.commands.specs.Call.{Lent, seen, inserted, stepOf, called, commandCall}
 use Rattle.commands.proofs.Classes.{named}
 use Rattle.history.specs.History.{cartridge}
 use Rattle.lengths.proofs.Calls.{unset}
-use Rattle.larger.specs.Rules.{largestBefore, soundBy, wellRecordBy, insertedBy, fieldErrorBy, testsBy, listRightBy, selectingBy, actBy, callBy, NoneAbove, speaksAbove}
+use Rattle.larger.specs.Rules.{largestBefore, wellRecordBy, insertedBy, fieldErrorBy, testsBy, listRightBy, selectingBy, actBy, callBy, NoneAbove, speaksAbove}
 use Rattle.larger.proofs.Images.{sound-so, same-sound}
 
 -- ---- what a command speaks of

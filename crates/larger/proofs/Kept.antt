@@ -1,31 +1,29 @@
 -- A block of any length to the largest, once put, stands whole: it is read back by reads of the largest block, and viewed, until a command writes or
 -- erases at its number or lower. And the image that has just room for it.
 -- Assumes nothing.
-use Prim.Native.Nat.{ℕ, suc, _+_, _-_, _*_, _≤_, _<_}
+use Prim.Native.Nat.{ℕ, _+_, _-_, _*_, _≤_, _<_}
 use native.Mathlib.Nat.{zero-mul}
 use native.Mathlib.Omega.{arith}
-use mathlib.Core.Path.{_≡_, refl, sym, ap, ap₂, _∙_, subst}
-use mathlib.Core.Bool.{true, false, cond}
+use mathlib.Core.Path.{_≡_, refl, sym, _∙_, subst}
+use mathlib.Core.Bool.{true, false}
 use mathlib.Core.List.{List, [], _∷_, _++_}
-use borrow.Author.Tests.{eq-eqb, le-leb, lt-leb, lt-ltb}
-use lib.Dec.{eqb}
-use lib.ListN.{length, take, drop}
-use Rattle.objects.specs.Object.{block, dataOf, largestBlock}
+use borrow.Author.Tests.{eq-eqb, lt-leb, lt-ltb}
+use lib.ListN.{length, take}
+use Rattle.objects.specs.Object.{block, largestBlock}
 use Rattle.objects.specs.Events.{Clear, put, happen}
 use Rattle.objects.specs.Room.{entryLength, trailerLength}
-use Rattle.image.specs.Image.{leastLength, mostLength, count, endAt, room, fits, zone, objects}
-use Rattle.image.proofs.Facts.{room-fits, fits-room}
+use Rattle.image.specs.Image.{leastLength, mostLength, endAt, room, fits, zone, objects}
+use Rattle.image.proofs.Facts.{room-fits}
 use Rattle.changes.specs.Changes.{occur}
 use Rattle.changes.proofs.Obeys.{Admits, obeys, put-next}
 use Rattle.trailers.specs.Trailers.{blank}
 use Rattle.trailers.proofs.Trailers.{Blanked, blanks}
 use Rattle.record.specs.Record.{decodeOf}
-use Rattle.codes.specs.Fields.{fixedOf, transferOf}
-use Rattle.commands.specs.Call.{Lent, lent, Result, commandCall}
+use Rattle.commands.specs.Call.{Lent, lent}
 use Rattle.history.specs.History.{Slot, number, Cartridge, part, MadeBlank, together, Call, command, after, ends, past}
 use Rattle.history.specs.Tiles.{Kept, tileLength, tileOf, TilePut}
 use Rattle.history.proofs.Tiles.{tile-kept}
-use Rattle.larger.specs.Blocks.{currentOf, Writes, blockPut}
+use Rattle.larger.specs.Blocks.{currentOf, Writes}
 use Rattle.larger.proofs.Blocks.{put-whole}
 
 module _ (s : Slot) (c : Cartridge) (m : MadeBlank (part s c)) (before : List Call) (rec cmd sent received : List ℕ) (since : List Call) where
@@ -75,7 +73,7 @@ module _ (s : List ℕ) (low : leastLength ≤ length s) (high : length s ≤ mo
   has-no-room h = rw (none-before, new .same-length) (lt-leb (entryLength + n) (length s - trailerLength - (entryLength * 0 + 0)) (omega arith))
 
   module _ (bs : List ℕ) (all : length bs ≡ n) (least : 1 ≤ n) (most : n ≤ largestBlock) (room-for : n + entryLength + trailerLength ≤ length s) where
-    admitted : Admits (put 0 (block bs)) (blank s)
+    pub admitted : Admits (put 0 (block bs)) (blank s)
     admitted = (omega arith, (omega arith, omega arith), rw all (has-room room-for))
 
     pub alone-there : objects (occur (put 0 (block bs)) (blank s)) ≡ block bs ∷ []

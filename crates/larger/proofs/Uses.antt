@@ -3,17 +3,15 @@
 -- Assumes nothing.
 use Prim.Native.Nat.{ℕ, zero, suc, _-_, _≤_, _<_}
 use native.Mathlib.Omega.{arith}
-use mathlib.Core.Path.{_≡_, refl, sym, ap, ap₂, _∙_, subst}
-use mathlib.Core.Bool.{Bool, true, false, cond, not, _&&_, _||_}
-use mathlib.Core.Option.{none}
+use mathlib.Core.Path.{_≡_, refl, sym, ap, _∙_, subst}
+use mathlib.Core.Bool.{Bool, true, false, cond, not, _&&_}
 use mathlib.Core.List.{List, [], _∷_}
 use borrow.Author.Tests.{eqb-true, ltb-false, not-true}
-use lib.Dec.{eqb, leb, ltb}
-use lib.ListN.{length, take, length-take}
-use Rattle.answers.specs.declared.Answer.{Answer}
-use Rattle.answers.specs.Answers.{Settled, settled, done, refused, refusalOf, first}
+use lib.Dec.{eqb, ltb}
+use lib.ListN.{length, take}
+use Rattle.answers.specs.Answers.{Settled, settled, done, refused}
 use Rattle.objects.specs.Object.{Object, block, largestBlock}
-use Rattle.objects.specs.Events.{Event, cut, happens}
+use Rattle.objects.specs.Events.{cut, happens}
 use Rattle.objects.specs.Transfer.{blocksOf, marksOf, putFrom}
 use Rattle.image.specs.Image.{sound, faultOf, objects}
 use Rattle.image.specs.Parts.{partOf}
@@ -31,19 +29,18 @@ use Rattle.house.specs.Images.{protectCall}
 use Rattle.commands.specs.Kinds.{among, erases}
 use Rattle.commands.specs.Parameters.{wholeLength, newLength}
 use Rattle.commands.specs.Act.{offered, eventsOf}
-use Rattle.commands.specs.Tests.{tests}
 use Rattle.commands.specs.Step.{acted}
-use Rattle.commands.specs.Call.{Lent, lent, Result, partition, looksAt, seen, laidOut, commandCall}
-use Rattle.commands.proofs.Faultless.{Well, inside}
+use Rattle.commands.specs.Call.{Lent, lent, Result, partition, seen, laidOut, commandCall}
+use Rattle.commands.proofs.Faultless.{inside}
 use Rattle.commands.proofs.Goes.{Touch, untouched, touched, act-touches}
 use Rattle.history.specs.History.{Slot, slot0, slot1, number, Cartridge, cartridge, part, isGood, slicesLeft, caused, after}
 use Rattle.history.specs.Always.{Use, sends, mounts, protects, callOf, recordAfter}
 use Rattle.history.proofs.Ended.{Finished, by-number, by-sense, by-act, ended}
 use Rattle.history.proofs.Acted.{stepped, acts, unaltered, shaped}
 use Rattle.history.proofs.Told.{shown, protect-turned}
-use Rattle.lengths.specs.Lengths.{lengthAfter, Turn}
+use Rattle.lengths.specs.Lengths.{Turn}
 use Rattle.lengths.proofs.Setting.{sets, made-length}
-use Rattle.larger.specs.Rules.{largestBefore, soundBy, mountBy, protectBy, partBy, callBy, noneAbove, NoneAbove, speaksAbove, turnBy, playedBy, noneSpeaks}
+use Rattle.larger.specs.Rules.{largestBefore, mountBy, protectBy, partBy, noneAbove, NoneAbove, speaksAbove, turnBy, playedBy, noneSpeaks}
 use Rattle.larger.proofs.Above.{none-take, none-blocks, none-marks, none-put, none-cut}
 use Rattle.larger.proofs.Images.{sound-so, same-sound}
 use Rattle.larger.proofs.Calls.{not-spoken, record-so, call-so, same-record, as-by}

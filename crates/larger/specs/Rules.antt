@@ -3,7 +3,7 @@
 -- Assumes nothing: these are definitions.
 use Prim.Native.Nat.{ℕ, zero, suc, _+_, _-_, _*_, _/_, _^_, _≤_}
 use mathlib.Core.Path.{_≡_}
-use mathlib.Core.Bool.{Bool, true, false, cond, not, _&&_, _||_}
+use mathlib.Core.Bool.{Bool, true, cond, not, _&&_, _||_}
 use mathlib.Core.Option.{Option, none, some}
 use mathlib.Core.List.{List, [], _∷_, _++_}
 use lib.Dec.{eqb, leb, ltb}
@@ -31,7 +31,7 @@ use Rattle.commands.specs.Act.{Seen, Deed, good, checked, giving, carrying, wit
 use Rattle.commands.specs.Tests.{fieldError, fieldFault, tests}
 use Rattle.commands.specs.Step.{steppedBy, unless}
 use Rattle.commands.specs.Call.{Lent, lent, outcome, Result, partition, looksAt, seen, applied, written}
-use Rattle.history.specs.History.{Slot, slot0, slot1, Cartridge, cartridge, slicesLeft}
+use Rattle.history.specs.History.{slot0, slot1, Cartridge, cartridge, slicesLeft}
 use Rattle.history.specs.Always.{Use, sends, mounts, protects}
 use Rattle.lengths.specs.Lengths.{Turn}
 

@@ -3,13 +3,13 @@
 use Prim.Native.Nat.{ℕ, _+_, _-_, _*_, _^_, _≤_, _<_}
 use native.Mathlib.Numerals.{add-one}
 use native.Mathlib.Omega.{arith}
-use mathlib.Core.Path.{_≡_, refl, sym, ap, _∙_}
+use mathlib.Core.Path.{_≡_, refl, sym, _∙_}
 use mathlib.Core.Bool.{Bool, true, false, not, _&&_, _||_}
 use mathlib.Core.Option.{some}
 use mathlib.Core.List.{List}
 use borrow.Author.Tests.{eq-eqb, ne-eqb, eqb-false, lt-ltb, le-ltb, not-true, not-false}
 use lib.Dec.{eqb}
-use lib.IntN.{pos, subℕ}
+use lib.IntN.{subℕ}
 use lib.ListN.{length, take, drop, getElem?, length-take}
 use Rattle.words.specs.Words.{over, limited}
 use Rattle.words.proofs.Laws.{over-nil, part-is}
