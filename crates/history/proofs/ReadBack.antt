@@ -41,13 +41,18 @@ use Rattle.history.proofs.Always.{command-faultless}
 
 -- ---- no test stops such a read
 
+asked : (b : Bool) → transferOf (readLargest b) ≡ largestBlock
+unfolding transferOf be bytes
+asked true = refl
+asked false = refl
+
 pub lets : (b : Bool) (rec p0 p1 sent received : List ℕ) → NoFault rec (cartridge p0 p1) → decodeOf rec .loaded ≡ 1 → decodeOf rec .attention ≡ noAttention → largestBlock ≤ length received
     → first (commandTests rec (lent (readLargest b) p0 p1 sent received)) ≡ none
-unfolding first commandTests tests tooShort masksHold inMasks fieldError fixedOf siliOf taken needed bytesAsked transferOf be bytes
+unfolding first commandTests tests tooShort masksHold inMasks fieldError fixedOf siliOf taken needed bytesAsked be bytes
 lets true rec p0 p1 sent received f l a r =
-    rw (f, eq-eqb (decodeOf rec .attention) noAttention a, ne-eqb (decodeOf rec .loaded) 0 (λ z. omega arith), le-ltb (length sent) 0 zero-le, le-ltb (length received) largestBlock r) refl
+    rw (f, eq-eqb (decodeOf rec .attention) noAttention a, ne-eqb (decodeOf rec .loaded) 0 (λ z. omega arith), le-ltb (length sent) 0 zero-le, asked true, le-ltb (length received) largestBlock r) refl
 lets false rec p0 p1 sent received f l a r =
-    rw (f, eq-eqb (decodeOf rec .attention) noAttention a, ne-eqb (decodeOf rec .loaded) 0 (λ z. omega arith), le-ltb (length sent) 0 zero-le, le-ltb (length received) largestBlock r) refl
+    rw (f, eq-eqb (decodeOf rec .attention) noAttention a, ne-eqb (decodeOf rec .loaded) 0 (λ z. omega arith), le-ltb (length sent) 0 zero-le, asked false, le-ltb (length received) largestBlock r) refl
 
 -- ---- what the read is: of the object at the position
 
@@ -127,11 +132,6 @@ block-small s k i bs e =
     let q = promised s k i bs e in
     let f = follows-size (endAt s i) (entry s i) (ordered-at s i (count s) (q .0) (k .in-order)) (q .1) in
     omega (arith, f .1, q .2)
-
-asked : (b : Bool) → transferOf (readLargest b) ≡ largestBlock
-unfolding transferOf be bytes
-asked true = refl
-asked false = refl
 
 -- ---- one read
 

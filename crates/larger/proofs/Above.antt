@@ -16,13 +16,13 @@ use Rattle.image.proofs.Tests.{both}
 use Rattle.larger.specs.Rules.{noneAbove}
 
 module _ (m : ℕ) where
-  one-more : (x : Object) (xs : List Object) → length (dataOf x) ≤ m → noneAbove m xs ≡ true → noneAbove m (x ∷ xs) ≡ true
-  unfolding noneAbove
-  one-more x xs h a = rw (le-leb (length (dataOf x)) m h, a) refl
-
   parts : (x : Object) (xs : List Object) → noneAbove m (x ∷ xs) ≡ true → (length (dataOf x) ≤ m) × (noneAbove m xs ≡ true)
   unfolding noneAbove
   parts x xs a = let b = both (leb (length (dataOf x)) m) (noneAbove m xs) a in (leb-true (length (dataOf x)) m (b .0), b .1)
+
+  one-more : (x : Object) (xs : List Object) → length (dataOf x) ≤ m → noneAbove m xs ≡ true → noneAbove m (x ∷ xs) ≡ true
+  unfolding noneAbove
+  one-more x xs h a = rw (le-leb (length (dataOf x)) m h, a) refl
 
   pub none-at : (xs : List Object) (i : ℕ) (x : Object) → noneAbove m xs ≡ true → getElem? xs i ≡ some x → length (dataOf x) ≤ m
   none-at [] i x a e = absurd (let z : _≡_ {A = ℕ} 0 1 = cc in omega arith)
