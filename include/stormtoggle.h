@@ -51,7 +51,9 @@ enum { STORMTOGGLE_GOOD = 0x00, STORMTOGGLE_CHECK_CONDITION = 0x02 };
  * docs/SCHEDULING.md.) */
 #define STORMTOGGLE_CROSSED(answer) ((uint32_t)((uint64_t)(answer) >> 36))
 
-/* How long a partition's image, and a block in it, may be; and the block length that a mount sets. */
+/* How long a partition's image, and a block in it, may be; and the block length that a mount sets. A READ without FIXED
+ * asks for 16,777,215 bytes at most, so for any block whole; one with FIXED for as many blocks, of the block length
+ * each, which can be more than 32 bits count: the buffer that is lent must have all of them, whatever stands there. */
 enum {
     STORMTOGGLE_SHORTEST_IMAGE = 64,
     STORMTOGGLE_LONGEST_IMAGE = 1073741824,
@@ -68,7 +70,7 @@ enum {
     STORMTOGGLE_RECORD_CURRENT = 2,      /* 1 byte: the current partition, 0 or 1; 0 while unloaded */
     STORMTOGGLE_RECORD_ATTENTION = 3,    /* 1 byte: what waits to be told, 28h or 29h; 00h if nothing does */
     STORMTOGGLE_RECORD_POSITION = 4,     /* 4 bytes: the object number; 0 while unloaded */
-    STORMTOGGLE_RECORD_BLOCK_LENGTH = 8, /* 4 bytes: at most 65,536; 0 means variable */
+    STORMTOGGLE_RECORD_BLOCK_LENGTH = 8, /* 4 bytes: at most 1,048,576; 0 means variable */
     STORMTOGGLE_RECORD_SENSE = 12        /* 18 bytes, any: the kept sense; empty is 70h first, 0Ah in byte 7, else 0 */
 };
 

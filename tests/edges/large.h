@@ -40,7 +40,7 @@
 static const struct edge large_writes[] = {
     WRITES("65,537", FORMER_LARGEST + 1, "b65537", FOR_65537, SHORT_OF_65537, FORMER, AT(0), AT(1)),
     WRITES("800,000", PICTURE_BYTES, "b800000", FOR_PICTURE, SHORT_OF_PICTURE, BIG, MOUNTED(0), MOUNTED(1)),
-    WRITES("1,048,576", LARGEST_BLOCK, "B", FOR_LARGEST, SHORT_OF_LARGEST, BIG, SET(0, 0), SET(0, 1)),
+    WRITES("1,048,576", LARGEST_BLOCK, "B", FOR_LARGEST, SHORT_OF_LARGEST, BIG, MOUNTED(0), MOUNTED(1)),
     NO_FIELD_ERROR("65,537", FORMER_LARGEST + 1),
     NO_FIELD_ERROR("1,048,576", LARGEST_BLOCK),
     FIELD_ERROR("1,048,577", LARGEST_BLOCK + 1),
@@ -213,6 +213,33 @@ static const struct edge large_drives[] = {
      .told = NOT_LOADED},
 };
 
+/* ---- lengths selected over another, and lengths that ask for more than is lent */
+
+#define SETS(name, length, high, middle, low)                                                                     \
+    {"MODE SELECT of " name " over 512", E, SELECT, SET(512, 1), SELECTS(high, middle, low),                      \
+     .after = SET(length, 1), .carried = MODE_BYTES}
+#define KEEPS(name, high, middle, low)                                                                            \
+    {"MODE SELECT of " name " over 512", E, SELECT, SET(512, 1), SELECTS(high, middle, low),                      \
+     .after = SET(512, 1), .told = PLAIN(TOLD_LIST)}
+static const struct edge large_requests[] = {
+    SETS("65,536", FORMER_LARGEST, 1, 0, 0),
+    SETS("65,537", FORMER_LARGEST + 1, 1, 0, 1),
+    SETS("800,000", PICTURE_BYTES, 0x0c, 0x35, 0),
+    SETS("1,048,575", LARGEST_BLOCK - 1, 0x0f, 0xff, 0xff),
+    SETS("1,048,576", LARGEST_BLOCK, 0x10, 0, 0),
+    KEEPS("1,048,577", 0x10, 0, 1),
+    KEEPS("FFFFFFh", 0xff, 0xff, 0xff),
+    {"MODE SENSE with block length 1,048,577", E, SENSE, SET(LARGEST_BLOCK + 1, 1), .refusal = BY_DRIVE},
+    {"REQUEST SENSE with block length 2^31", NONE, SIX(REQUEST_SENSE, 0, SENSE_BYTES),
+     BARE(ATTENTION_FRESH, 0x80000000), .refusal = BY_DRIVE},
+    {"READ 1,048,577 into nothing", E, SIX(READ, 0, LARGEST_BLOCK + 1), AT(0), .refusal = BY_RECEIVED},
+    {"READ FFFFFFh at end of data into nothing", E, SIX(READ, 0, COUNT_MOST), AT(2), .refusal = BY_RECEIVED},
+    {"FIXED READ 0 in blocks of 1,048,576", E, SIX(READ, FIXED, 0), SET(LARGEST_BLOCK, 0),
+     .after = SET(LARGEST_BLOCK, 0)},
+    {"FIXED READ 1 in blocks of 1,048,576 into nothing", E, SIX(READ, FIXED, 1), SET(LARGEST_BLOCK, 0),
+     .refusal = BY_RECEIVED},
+};
+
 /* ---- the same under the house services */
 
 static const struct mounting large_mountings[] = {
@@ -282,6 +309,7 @@ static void large_blocks(void)
     run(large_reads, COUNT(large_reads));
     run(large_modes, COUNT(large_modes));
     run(large_drives, COUNT(large_drives));
+    run(large_requests, COUNT(large_requests));
     run_mountings(large_mountings, COUNT(large_mountings));
     for (size_t i = 0; i < COUNT(viewed); i++)
         hold_viewed(&viewed[i]);

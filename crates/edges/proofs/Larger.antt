@@ -38,7 +38,7 @@ use Rattle.commands.specs.Parameters.{blockLimits, modeData, listLengthKnown, h
 use Rattle.larger.specs.Blocks.{Writes}
 use Rattle.larger.proofs.Blocks.{put-whole, not-put, too-long}
 use Rattle.larger.proofs.Kept.{has-room, has-no-room, admitted, alone-there, fills}
-use Rattle.edges.specs.Cases.{sense18, nothingKept, bare64}
+use Rattle.edges.specs.Cases.{sense18, nothingKept}
 use Rattle.edges.specs.Traps.{Traps, guarded, plain, check}
 use Rattle.edges.specs.Mounted.{Mountings, started}
 use Rattle.edges.specs.Larger.{lengthsSet, mountsOver, lengthsAsked, Promised, promises, Fills, DoesNotFit, IsTooLong}
@@ -59,7 +59,7 @@ unfolding Mountings mountsOver E be bytes count flags protected directory size e
 mounts-over = (refl, (refl, (refl, (refl, tt))))
 
 pub lengths-asked : Traps lengthsAsked
-unfolding Traps lengthsAsked E guarded protect reflag bare64 be bytes over signed wrapped bytesIn M.residue
+unfolding Traps lengthsAsked E guarded protect reflag be bytes over signed wrapped bytesIn M.residue
     count flags protected directory size entry topBit low31 endAt follows ordered rightLength sound objectAt upto objects retitle entryOf enter occur occurs cleared
     fits32 senseBytes reports told emptySense attentionSense decodeOf encodeOf attentionKnown emptyHanded placed wellFormed wellRecord withSense unloaded loadedAnew tooShort inMasks masksHold
     fixedOf siliOf transferOf longOf loadOf dbdOf pageOf pfOf allocationOf
@@ -135,8 +135,8 @@ module _ (n : ℕ) (least : 45 ≤ n) (masks : masksHold (six 0x0A 0 n) ≡ true
   leaving-out : n ≤ largestBlock → senseBytes (overflowed (pos n)) ≡ sense18 0xF0 0x4D n 0x00 0x02 → DoesNotFit n
   leaving-out most t s sent h all = left-out n s sent (omega arith) (omega arith) all masks asks (omega arith) most h t
 
-  not-serving : largestBlock < n → n ≤ 0xFFFFFF → IsTooLong n
-  not-serving h most s sent e all = not-served n s sent (omega arith) (omega arith) all masks asks h
+  not-serving : largestBlock < n → IsTooLong n
+  not-serving h s sent low high all = not-served n s sent low high all masks asks h
 
 pub filled-so : Fills 65537 × Fills 800000 × Fills 1048576
 unfolding inMasks masksHold transferOf be bytes
@@ -148,4 +148,4 @@ left-out-so = (leaving-out 65537 (omega arith) refl refl (omega arith) refl, lea
 
 pub too-long-so : IsTooLong 1048577
 unfolding inMasks masksHold transferOf be bytes
-too-long-so = not-serving 1048577 (omega arith) refl refl (omega arith) (omega arith)
+too-long-so = not-serving 1048577 (omega arith) refl refl (omega arith)

@@ -1,6 +1,6 @@
 -- Q-7's cases: lengths on both sides of 1,048,576 in a record, MODE SELECT, WRITE, READ and a directory entry; and a block that just fills an image.
 -- Assumes nothing: these are definitions.
-use Prim.Native.Nat.{ℕ, _+_}
+use Prim.Native.Nat.{ℕ, _+_, _≤_}
 use mathlib.Core.Path.{_≡_}
 use mathlib.Core.Bool.{Bool, true, false}
 use mathlib.Core.List.{List, [], _∷_, _++_}
@@ -9,13 +9,13 @@ use Rattle.words.specs.Words.{zeros}
 use Rattle.answers.specs.Answers.{refused}
 use Rattle.objects.specs.Object.{block}
 use Rattle.objects.specs.Events.{put}
-use Rattle.image.specs.Image.{follows, sound, objects}
+use Rattle.image.specs.Image.{leastLength, mostLength, follows, sound, objects}
 use Rattle.image.specs.Example.{E}
 use Rattle.changes.specs.Changes.{occur}
 use Rattle.trailers.specs.Trailers.{blank}
 use Rattle.commands.specs.Call.{lent, result, commandCall}
 use Rattle.codes.specs.Six.{six}
-use Rattle.edges.specs.Cases.{sense18, nothingKept, bare64, select, selectList}
+use Rattle.edges.specs.Cases.{sense18, nothingKept, select, selectList}
 use Rattle.edges.specs.Traps.{Trap, loaded, bare, plain, goodAnswer, check, alone, refuses, turns, guarded}
 use Rattle.edges.specs.Mounted.{Mounting, mountRefused, started, nines}
 
@@ -80,8 +80,8 @@ lengthsAsked =
     refuses 2 (loaded 0 0 1048576 nothingKept) (six 0x0A 1 4096) E [] ∷
     refuses 3 (loaded 0 0 1048576 nothingKept) (six 0x08 1 0xFFFFFF) E [] ∷
     refuses 2 (loaded 0 0 1048576 nothingKept) (six 0x0A 1 0xFFFFFF) E [] ∷
-    -- on 64 bytes a block of 65,537 does not fit, and is no field error
-    alone (loaded 0 0 0 nothingKept) (six 0x0A 0 65537) bare64 (replicate 65537 7) [] (check 0) (loaded 0 0 0 (sense18 0xF0 0x4D 65537 0x00 0x02)) bare64 [] ∷
+    -- a block of 65,537 does not fit E, and is no field error
+    alone (started 0 nothingKept) (six 0x0A 0 65537) E (replicate 65537 7) [] (check 0) (started 0 (sense18 0xF0 0x4D 65537 0x00 0x02)) E [] ∷
     []
 
 -- ---- what an entry promises: the end before it, the entry, and whether it is right
@@ -113,8 +113,8 @@ DoesNotFit n = (s sent : List ℕ) → length s ≡ n + 19 → length sent ≡ n
     → commandCall (started 0 nothingKept) (lent (six 0x0A 0 n) (blank s) [] sent [])
     ≡ result (check 0) (started 0 (sense18 0xF0 0x4D n 0x00 0x02)) (lent (six 0x0A 0 n) (blank s) [] sent [])
 
--- above the largest block, where there would be room
+-- above the largest block, on an image of any length
 abbrev pub IsTooLong : ℕ → Type 0
-IsTooLong n = (s sent : List ℕ) → length s ≡ n + 20 → length sent ≡ n
+IsTooLong n = (s sent : List ℕ) → leastLength ≤ length s → length s ≤ mostLength → length sent ≡ n
     → commandCall (started 0 nothingKept) (lent (six 0x0A 0 n) (blank s) [] sent [])
     ≡ result (check 0) (started 0 (plain 5 0x24 0)) (lent (six 0x0A 0 n) (blank s) [] sent [])

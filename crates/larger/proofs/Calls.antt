@@ -26,7 +26,7 @@ use Rattle.commands.specs.Call.{Lent, seen, inserted, stepOf, called, commandCa
 use Rattle.commands.proofs.Classes.{named}
 use Rattle.history.specs.History.{cartridge}
 use Rattle.lengths.proofs.Calls.{unset}
-use Rattle.larger.specs.Rules.{largestBefore, wellRecordBy, insertedBy, fieldErrorBy, testsBy, listRightBy, selectingBy, actBy, callBy, NoneAbove, speaksAbove}
+use Rattle.larger.specs.Rules.{largestBefore, wellRecordBy, insertedBy, fieldErrorBy, testsBy, listRightBy, selectingBy, actBy, callBy, Within, speaksAbove}
 use Rattle.larger.proofs.Images.{sound-so, same-sound}
 
 -- ---- what a command speaks of
@@ -111,7 +111,7 @@ module _ (rec : List ℕ) (x : Lent) where
 
   -- ---- and they are the same for a call that has to do with no larger block
 
-  module _ (m : ℕ) (l : m ≤ largestBlock) (w : NoneAbove m rec (cartridge (x .part0) (x .part1))) (quiet : speaksAbove m (x .cmd) (x .sent) ≡ false) where
+  module _ (m : ℕ) (l : m ≤ largestBlock) (w : Within m rec (cartridge (x .part0) (x .part1))) (quiet : speaksAbove m (x .cmd) (x .sent) ≡ false) where
     same-inserted : insertedBy m d (x .part0) (x .part1) ≡ insertedBy largestBlock d (x .part0) (x .part1)
     unfolding insertedBy
     same-inserted = rw (same-sound m (x .part0) l (w .part0), same-sound m (x .part1) l (w .part1)) refl
@@ -164,5 +164,5 @@ module _ (rec : List ℕ) (x : Lent) where
 
 -- ---- Q-7 beside 01: whoever has to do with no block above 65,536 bytes sees no change
 
-pub as-before : (rec : List ℕ) (x : Lent) → NoneAbove largestBefore rec (cartridge (x .part0) (x .part1)) → speaksAbove largestBefore (x .cmd) (x .sent) ≡ false → callBy largestBefore rec x ≡ commandCall rec x
+pub as-before : (rec : List ℕ) (x : Lent) → Within largestBefore rec (cartridge (x .part0) (x .part1)) → speaksAbove largestBefore (x .cmd) (x .sent) ≡ false → callBy largestBefore rec x ≡ commandCall rec x
 as-before rec x w q = as-by rec x largestBefore (omega arith) w q ∙ call-so rec x

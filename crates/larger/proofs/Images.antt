@@ -18,7 +18,7 @@ use Rattle.image.proofs.Facts.{Sound, sound-parts, sound-of, ordered-at, follow
 use Rattle.image.proofs.Objects.{object-there}
 use Rattle.image.proofs.Tests.{both}
 use Rattle.history.proofs.ReadBack.{promised}
-use Rattle.larger.specs.Rules.{largestBefore, followsBy, orderedBy, soundBy, held, noneAbove}
+use Rattle.larger.specs.Rules.{largestBefore, followsBy, orderedBy, soundBy, held, noneAbove, NoLarger}
 use Rattle.larger.proofs.Above.{none-at, none-by}
 
 -- ---- by 1,048,576 it is the rule of image/specs
@@ -114,12 +114,12 @@ module _ (m : ℕ) (s : List ℕ) (k : Sound s) where
           omega (arith, leb-true (low31 (entry s i)) (endAt s i + m) (b .1), q .2)
 
 -- so, where no block has more, both rules say the same of any bytes
-pub same-sound : (m : ℕ) (s : List ℕ) → m ≤ largestBlock → noneAbove m (objects s) ≡ true → soundBy m s ≡ soundBy largestBlock s
+pub same-sound : (m : ℕ) (s : List ℕ) → m ≤ largestBlock → NoLarger m s → soundBy m s ≡ soundBy largestBlock s
 same-sound m s l a = go (soundBy m s) (soundBy largestBlock s) refl refl
   where
     go : (t u : Bool) → soundBy m s ≡ t → soundBy largestBlock s ≡ u → t ≡ u
     go true u e f = sym (sound-more m largestBlock s l e) ∙ f
-    go false true e f = sym e ∙ sound-less m s (sound-parts s (sym (sound-so s) ∙ f)) a
+    go false true e f = let h = sym (sound-so s) ∙ f in sym e ∙ sound-less m s (sound-parts s h) (a h)
     go false false e f = refl
 
 -- ---- Q-7: "Older images stay sound", with the same objects; and an image that is sound now was so before exactly if no block has more than 65,536 bytes

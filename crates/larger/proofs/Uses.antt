@@ -40,7 +40,7 @@ use Rattle.history.proofs.Acted.{stepped, acts, unaltered, shaped}
 use Rattle.history.proofs.Told.{shown, protect-turned}
 use Rattle.lengths.specs.Lengths.{Turn}
 use Rattle.lengths.proofs.Setting.{sets, made-length}
-use Rattle.larger.specs.Rules.{largestBefore, mountBy, protectBy, partBy, noneAbove, NoneAbove, speaksAbove, turnBy, playedBy, noneSpeaks}
+use Rattle.larger.specs.Rules.{largestBefore, mountBy, protectBy, partBy, noneAbove, NoLarger, Within, speaksAbove, turnBy, playedBy, noneSpeaks}
 use Rattle.larger.proofs.Above.{none-take, none-blocks, none-marks, none-put, none-cut}
 use Rattle.larger.proofs.Images.{sound-so, same-sound}
 use Rattle.larger.proofs.Calls.{not-spoken, record-so, call-so, same-record, as-by}
@@ -60,15 +60,15 @@ unfolding partBy partOf
 part-so s i = rw (sound-so s) refl
 
 module _ (m : ℕ) (l : m ≤ largestBlock) where
-  same-mount : (rec : List ℕ) (c : Cartridge) → NoneAbove m rec c → mountBy m rec (c .part0) (c .part1) ≡ mountBy largestBlock rec (c .part0) (c .part1)
+  same-mount : (rec : List ℕ) (c : Cartridge) → Within m rec c → mountBy m rec (c .part0) (c .part1) ≡ mountBy largestBlock rec (c .part0) (c .part1)
   unfolding mountBy
   same-mount rec c w = rw (same-record m l rec (w .length-set), same-sound m (c .part0) l (w .part0), same-sound m (c .part1) l (w .part1)) refl
 
-  same-protect : (on : Bool) (s : List ℕ) → noneAbove m (objects s) ≡ true → protectBy m on s ≡ protectBy largestBlock on s
+  same-protect : (on : Bool) (s : List ℕ) → NoLarger m s → protectBy m on s ≡ protectBy largestBlock on s
   unfolding protectBy
   same-protect on s a = rw (same-sound m s l a) refl
 
-  pub same-part : (s : List ℕ) (i : ℕ) → noneAbove m (objects s) ≡ true → partBy m s i ≡ partBy largestBlock s i
+  pub same-part : (s : List ℕ) (i : ℕ) → NoLarger m s → partBy m s i ≡ partBy largestBlock s i
   unfolding partBy
   same-part s i a = rw (same-sound m s l a) refl
 
@@ -131,7 +131,7 @@ module _ (m : ℕ) (l : m ≤ largestBlock) where
 
   -- ---- so neither has to do with one afterwards
 
-  module _ (rec : List ℕ) (x : Lent) (w : NoneAbove m rec (cartridge (x .part0) (x .part1))) (q : speaksAbove m (x .cmd) (x .sent) ≡ false) where
+  module _ (rec : List ℕ) (x : Lent) (w : Within m rec (cartridge (x .part0) (x .part1))) (q : speaksAbove m (x .cmd) (x .sent) ≡ false) where
     length-stays : decodeOf (commandCall rec x .rec) .«block_length» ≤ m
     length-stays = rw (sets rec x) (go (among (ModeSelect ∷ []) (operationOf (codeOf (x .cmd)))) (isGood (commandCall rec x .answer)) (eqb (allocationOf (x .cmd)) wholeLength) (not-spoken m (x .cmd) (x .sent) q .2))
       where
@@ -141,8 +141,8 @@ module _ (m : ℕ) (l : m ≤ largestBlock) where
         go true false c e = w .length-set
         go false b c e = w .length-set
 
-    part-stays : (s : Slot) → noneAbove m (objects (part s (cartridge (x .part0) (x .part1)))) ≡ true → noneAbove m (objects (part s (slicesLeft (commandCall rec x)))) ≡ true
-    part-stays s a = go (sound (part s (cartridge (x .part0) (x .part1)))) refl
+    part-stays : (s : Slot) → NoLarger m (part s (cartridge (x .part0) (x .part1))) → NoLarger m (part s (slicesLeft (commandCall rec x)))
+    part-stays s a h = go (sound (part s (cartridge (x .part0) (x .part1)))) refl
       where
         offers : noneAbove m (offered (operationOf (codeOf (x .cmd))) (decodeOf rec) (x .cmd) (x .sent)) ≡ true
         offers = offers-none (decodeOf rec) (x .cmd) (x .sent) (operationOf (codeOf (x .cmd))) (w .length-set) (not-spoken m (x .cmd) (x .sent) q .1)
@@ -154,18 +154,20 @@ module _ (m : ℕ) (l : m ≤ largestBlock) where
         go : (t : Bool) → sound (part s (cartridge (x .part0) (x .part1))) ≡ t → noneAbove m (objects (part s (slicesLeft (commandCall rec x)))) ≡ true
         go true e =
             let t = shown s rec (x .cmd) (x .part0) (x .part1) (x .sent) (x .received) (sound-parts (part s (cartridge (x .part0) (x .part1))) e) in
-            rw (t .makes) (by (eqb (decodeOf rec .current) (number s)) (objects (part s (cartridge (x .part0) (x .part1)))) a)
-        go false e = rw (untouched-unsound s rec x (λ k. never-both (sound-of (part s (cartridge (x .part0) (x .part1))) k) e)) a
+            rw (t .makes) (by (eqb (decodeOf rec .current) (number s)) (objects (part s (cartridge (x .part0) (x .part1)))) (a e))
+        go false e =
+            let same = untouched-unsound s rec x (λ k. never-both (sound-of (part s (cartridge (x .part0) (x .part1))) k) e) in
+            absurd (never-both (sym (ap sound same) ∙ h) e)
 
-    stays : NoneAbove m (commandCall rec x .rec) (slicesLeft (commandCall rec x))
+    stays : Within m (commandCall rec x .rec) (slicesLeft (commandCall rec x))
     stays = record { length-set = length-stays; part0 = part-stays slot0 (w .part0); part1 = part-stays slot1 (w .part1) }
 
-  protected-stays : (on : Bool) (s : List ℕ) → noneAbove m (objects s) ≡ true → noneAbove m (objects (protectCall on s .lent)) ≡ true
-  protected-stays on s a = go (eqb (faultOf s) 0) refl
+  protected-stays : (on : Bool) (s : List ℕ) → NoLarger m s → NoLarger m (protectCall on s .lent)
+  protected-stays on s a h = go (eqb (faultOf s) 0) refl
     where
       go : (t : Bool) → eqb (faultOf s) 0 ≡ t → noneAbove m (objects (protectCall on s .lent)) ≡ true
-      go true e = let t = protect-turned on s (fault-free s (eqb-true (faultOf s) 0 e)) in rw (t .makes) (unfold happens in a)
-      go false e = unfold protectCall in rw e a
+      go true e = let k = fault-free s (eqb-true (faultOf s) 0 e) in let t = protect-turned on s k in rw (t .makes) (unfold happens in a (sound-of s k))
+      go false e = let same : protectCall on s .lent ≡ s = unfold protectCall in rw e refl in rw same (a (sym (ap sound same) ∙ h))
 
   module _ (h : mountedBlockLength ≤ m) where
     mounted-stays : (rec p0 p1 : List ℕ) → decodeOf rec .«block_length» ≤ m → decodeOf (mountCall rec p0 p1 .lent) .«block_length» ≤ m
@@ -178,34 +180,34 @@ module _ (m : ℕ) (l : m ≤ largestBlock) where
 
     -- ---- one use, and one after another
 
-    alike : (u : Use) (us : List Use) → noneSpeaks m (u ∷ us) ≡ true → (rec : List ℕ) (c : Cartridge) → NoneAbove m rec c
-        → (turnBy m u rec c ≡ turnBy largestBlock u rec c) × NoneAbove m (turnBy largestBlock u rec c .rec) (turnBy largestBlock u rec c .cart) × (noneSpeaks m us ≡ true)
+    alike : (u : Use) (us : List Use) → noneSpeaks m (u ∷ us) ≡ true → (rec : List ℕ) (c : Cartridge) → Within m rec c
+        → (turnBy m u rec c ≡ turnBy largestBlock u rec c) × Within m (turnBy largestBlock u rec c .rec) (turnBy largestBlock u rec c .cart) × (noneSpeaks m us ≡ true)
     unfolding noneSpeaks
     alike (sends cmd sent received) us q rec c w =
         let b = both (not (speaksAbove m cmd sent)) (noneSpeaks m us) q in
         let x = lent cmd (c .part0) (c .part1) sent received in
         let n = not-true (speaksAbove m cmd sent) (b .0) in (
           ap (λ (r : Result). record { answer = r .answer; received = r .lent .received; rec = r .rec; cart = slicesLeft r }) (as-by rec x m l w n),
-          subst (λ (r : Result). NoneAbove m (r .rec) (slicesLeft r)) (sym (call-so rec x)) (stays rec x w n),
+          subst (λ (r : Result). Within m (r .rec) (slicesLeft r)) (sym (call-so rec x)) (stays rec x w n),
           b .1,
         )
     alike mounts us q rec c w = (
       ap (λ (s : Settled). record { answer = s .answer; received = []; rec = s .lent; cart = c }) (same-mount rec c w),
-      subst (λ (s : Settled). NoneAbove m (s .lent) c) (sym (mount-so rec (c .part0) (c .part1))) (record { length-set = mounted-stays rec (c .part0) (c .part1) (w .length-set); part0 = w .part0; part1 = w .part1 }),
+      subst (λ (s : Settled). Within m (s .lent) c) (sym (mount-so rec (c .part0) (c .part1))) (record { length-set = mounted-stays rec (c .part0) (c .part1) (w .length-set); part0 = w .part0; part1 = w .part1 }),
       q,
     )
     alike (protects slot0 on) us q rec c w = (
       ap (λ (s : Settled). record { answer = s .answer; received = []; rec = rec; cart = cartridge (s .lent) (c .part1) }) (same-protect on (c .part0) (w .part0)),
-      subst (λ (s : Settled). NoneAbove m rec (cartridge (s .lent) (c .part1))) (sym (protect-so on (c .part0))) (record { length-set = w .length-set; part0 = protected-stays on (c .part0) (w .part0); part1 = w .part1 }),
+      subst (λ (s : Settled). Within m rec (cartridge (s .lent) (c .part1))) (sym (protect-so on (c .part0))) (record { length-set = w .length-set; part0 = protected-stays on (c .part0) (w .part0); part1 = w .part1 }),
       q,
     )
     alike (protects slot1 on) us q rec c w = (
       ap (λ (s : Settled). record { answer = s .answer; received = []; rec = rec; cart = cartridge (c .part0) (s .lent) }) (same-protect on (c .part1) (w .part1)),
-      subst (λ (s : Settled). NoneAbove m rec (cartridge (c .part0) (s .lent))) (sym (protect-so on (c .part1))) (record { length-set = w .length-set; part0 = w .part0; part1 = protected-stays on (c .part1) (w .part1) }),
+      subst (λ (s : Settled). Within m rec (cartridge (c .part0) (s .lent))) (sym (protect-so on (c .part1))) (record { length-set = w .length-set; part0 = w .part0; part1 = protected-stays on (c .part1) (w .part1) }),
       q,
     )
 
-    played-alike : (us : List Use) → noneSpeaks m us ≡ true → (rec : List ℕ) (c : Cartridge) → NoneAbove m rec c → playedBy m us rec c ≡ playedBy largestBlock us rec c
+    played-alike : (us : List Use) → noneSpeaks m us ≡ true → (rec : List ℕ) (c : Cartridge) → Within m rec c → playedBy m us rec c ≡ playedBy largestBlock us rec c
     unfolding playedBy
     played-alike [] q rec c w = refl
     played-alike (u ∷ us) q rec c w =
@@ -215,7 +217,7 @@ module _ (m : ℕ) (l : m ≤ largestBlock) where
 
 -- ---- Q-7 beside 01
 
-pub uses-as-before : (us : List Use) → noneSpeaks largestBefore us ≡ true → (rec : List ℕ) (c : Cartridge) → NoneAbove largestBefore rec c → playedBy largestBefore us rec c ≡ playedBy largestBlock us rec c
+pub uses-as-before : (us : List Use) → noneSpeaks largestBefore us ≡ true → (rec : List ℕ) (c : Cartridge) → Within largestBefore rec c → playedBy largestBefore us rec c ≡ playedBy largestBlock us rec c
 uses-as-before us q rec c w = played-alike largestBefore (omega arith) (omega arith) us q rec c w
 
 -- by 1,048,576 a use leaves what demand 3's uses leave
@@ -229,5 +231,5 @@ uses-so (protects slot0 on) rec c = (refl, ap (λ (s : Settled). cartridge (s .l
 uses-so (protects slot1 on) rec c = (refl, ap (λ (s : Settled). cartridge (c .part0) (s .lent)) (protect-so on (c .part1)))
 
 -- and the view shows the same of an older image
-pub view-as-before : (s : List ℕ) (i : ℕ) → noneAbove largestBefore (objects s) ≡ true → partBy largestBefore s i ≡ partOf s i
+pub view-as-before : (s : List ℕ) (i : ℕ) → NoLarger largestBefore s → partBy largestBefore s i ≡ partOf s i
 view-as-before s i a = same-part largestBefore (omega arith) s i a ∙ part-so s i

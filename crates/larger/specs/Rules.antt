@@ -13,7 +13,7 @@ use Rattle.answers.specs.Answers.{commandShort, recordFault, alreadyLoaded, wro
 use Rattle.objects.specs.Object.{Object, dataOf}
 use Rattle.objects.specs.Room.{entryLength, trailerLength}
 use Rattle.image.specs.declared.part.Part.{Part}
-use Rattle.image.specs.Image.{flagBits, count, flags, directory, size, entry, topBit, low31, endAt, rightLength, absent, objects}
+use Rattle.image.specs.Image.{flagBits, count, flags, directory, size, entry, topBit, low31, endAt, rightLength, sound, absent, objects}
 use Rattle.image.specs.Parts.{emptyPart}
 use Rattle.trailers.specs.Trailers.{protect}
 use Rattle.sense.specs.Sense.{illegalRequest, invalidListField, unqualified, plainly}
@@ -139,11 +139,15 @@ noneAbove m (x ∷ xs) = leb (length (dataOf x)) m && noneAbove m xs
 
 -- ---- a drive and a cartridge that have to do with no block above m
 
+-- an image that is sound now has none; of one that is not nothing is asked
+abbrev pub NoLarger : ℕ → List ℕ → Type 0
+NoLarger m s = sound s ≡ true → noneAbove m (objects s) ≡ true
+
 -- neither the record nor a partition has one
-pub record NoneAbove (m : ℕ) (rec : List ℕ) (c : Cartridge) : Type 0 where
+pub record Within (m : ℕ) (rec : List ℕ) (c : Cartridge) : Type 0 where
   pub length-set : decodeOf rec .«block_length» ≤ m
-  pub part0 : noneAbove m (objects (c .part0)) ≡ true
-  pub part1 : noneAbove m (objects (c .part1)) ≡ true
+  pub part0 : NoLarger m (c .part0)
+  pub part1 : NoLarger m (c .part1)
 
 -- a command that speaks of one: READ BLOCK LIMITS, which tells the largest; a variable WRITE of one; a MODE SELECT that names such a length
 unfoldable pub speaksAbove : ℕ → List ℕ → List ℕ → Bool
