@@ -53,19 +53,19 @@ module _ (n : ℕ) (rec : List ℕ) (x : Lent) (w : Writes n rec x) where
   abbrev p : List ℕ
   p = currentOf rec x
 
-  i : Inside (decodeOf rec) (x .part0) (x .part1)
-  i = inside (decodeOf rec) (x .part0) (x .part1) (fault-free rec (x .part0) (x .part1) (w .mounted .no-fault) .cart) (λ z. omega (arith, w .mounted .loaded))
+  i : Inside d (x .part0) (x .part1)
+  i = inside d (x .part0) (x .part1) (fault-free rec (x .part0) (x .part1) (w .mounted .no-fault) .cart) (λ z. omega (arith, w .mounted .loaded))
 
-  sees : seen Write (decodeOf rec) x ≡ seenOf (currentOf rec x)
+  sees : seen Write d x ≡ seenOf p
   unfolding looksAt
-  sees = seen-there Write (decodeOf rec) x (i .there)
+  sees = seen-there Write d x (i .there)
 
   -- ---- the tests: the field of a length that is above the largest block, else none
 
   stops : largestBlock < n → first (commandTests rec x) ≡ some fieldFault
   unfolding first commandTests tests fieldError
   stops h =
-      rw (w .is, w .whole, w .mounted .no-fault, eq-eqb (decodeOf rec .attention) noAttention (w .mounted .no-attention), w .masks, w .variable, w .asks, lt-ltb largestBlock n h) refl
+      rw (w .is, w .whole, w .mounted .no-fault, eq-eqb (d .attention) noAttention (w .mounted .no-attention), w .masks, w .variable, w .asks, lt-ltb largestBlock n h) refl
 
   pub too-long : largestBlock < n → commandCall rec x ≡ onlyTells rec x (plainly illegalRequest invalidField unqualified)
   unfolding stopped
@@ -78,12 +78,12 @@ module _ (n : ℕ) (rec : List ℕ) (x : Lent) (w : Writes n rec x) where
         w .is,
         w .whole,
         w .mounted .no-fault,
-        eq-eqb (decodeOf rec .attention) noAttention (w .mounted .no-attention),
+        eq-eqb (d .attention) noAttention (w .mounted .no-attention),
         w .masks,
         w .variable,
         w .asks,
         le-ltb largestBlock n h,
-        ne-eqb (decodeOf rec .loaded) 0 (λ z. omega (arith, w .mounted .loaded)),
+        ne-eqb (d .loaded) 0 (λ z. omega (arith, w .mounted .loaded)),
         sees,
         w .unguarded,
         le-ltb (length (x .sent)) n (w .sends),
@@ -96,74 +96,74 @@ module _ (n : ℕ) (rec : List ℕ) (x : Lent) (w : Writes n rec x) where
   sized = length-take-le n (x .sent) (w .sends)
 
   -- end(n), as the act reckons it
-  before : bytesIn (take (decodeOf rec .position) (objects (currentOf rec x))) ≡ endAt (currentOf rec x) (decodeOf rec .position)
-  before = sym (end-bytes (currentOf rec x) (i .right) (decodeOf rec .position) (i .place))
+  before : bytesIn (take (d .position) (objects p)) ≡ endAt p (d .position)
+  before = sym (end-bytes p (i .right) (d .position) (i .place))
 
   module _ (least : 1 ≤ n) where
     some-bytes : eqb n 0 ≡ false
     some-bytes = ne-eqb n 0 (λ z. omega arith)
 
-    goes : (t : Bool) → fits (currentOf rec x) (decodeOf rec .position) n ≡ t → goesDown Write (decodeOf rec) (x .cmd) (x .sent) (seenOf (currentOf rec x)) ≡ cond t (blockSent n x ∷ []) []
+    goes : (t : Bool) → fits p (d .position) n ≡ t → goesDown Write d (x .cmd) (x .sent) (seenOf p) ≡ cond t (blockSent n x ∷ []) []
     unfolding goesDown offered seenOf fits room
     goes t f =
-        let h : fitsIn (roomOf (length (currentOf rec x)) (decodeOf rec .position) (bytesIn (take (decodeOf rec .position) (objects (currentOf rec x))))) (length (take n (x .sent))) ≡ t = rw (before, sized) f in
-        rw (w .variable, w .asks, some-bytes) (alone (length (currentOf rec x)) (decodeOf rec .position) _ (take n (x .sent)) t h)
+        let h : fitsIn (roomOf (length p) (d .position) (bytesIn (take (d .position) (objects p)))) (length (take n (x .sent))) ≡ t = rw (before, sized) f in
+        rw (w .variable, w .asks, some-bytes) (alone (length p) (d .position) _ (take n (x .sent)) t h)
 
     -- where it does not fit, the request is what is not put, and nothing else is told of it
-    overflows : fits (currentOf rec x) (decodeOf rec .position) n ≡ false → act Write (decodeOf rec) (x .cmd) (x .sent) (seenOf (currentOf rec x)) ≡ checked (at (decodeOf rec) (decodeOf rec .position)) (overflowed (pos n))
+    overflows : fits p (d .position) n ≡ false → act Write d (x .cmd) (x .sent) (seenOf p) ≡ checked (at d (d .position)) (overflowed (pos n))
     unfolding act writing wrote bytesIn
     overflows f =
-        let there : Deed = act Write (decodeOf rec) (x .cmd) (x .sent) (seenOf (currentOf rec x)) in
-        let e : there ≡ checked (at (decodeOf rec) (decodeOf rec .position + 0)) (overflowed (pos n)) = rw (w .variable, w .asks, some-bytes, goes false f) (ap (λ (z : ℤ). checked (at (decodeOf rec) (decodeOf rec .position + 0)) (overflowed z)) (all-left n)) in
-        let z : decodeOf rec .position + 0 ≡ decodeOf rec .position = omega arith in
-        e ∙ ap (λ (k : ℕ). checked (at (decodeOf rec) k) (overflowed (pos n))) z
+        let there : Deed = act Write d (x .cmd) (x .sent) (seenOf p) in
+        let e : there ≡ checked (at d (d .position + 0)) (overflowed (pos n)) = rw (w .variable, w .asks, some-bytes, goes false f) (ap (λ (z : ℤ). checked (at d (d .position + 0)) (overflowed z)) (all-left n)) in
+        let z : d .position + 0 ≡ d .position = omega arith in
+        e ∙ ap (λ (k : ℕ). checked (at d k) (overflowed (pos n))) z
 
     pub not-put : n ≤ largestBlock → fits (currentOf rec x) (decodeOf rec .position) n ≡ false → commandCall rec x ≡ onlyTells rec x (overflowed (pos n))
     unfolding applied acted laidOut looksAt eventsOf putFrom occurs statusOf keptOf withSense
-    not-put most f = call-acts rec x (lets most) ∙ rw (w .is, sees, overflows f, goes false f, over-nil (x .received) 0) (by (eqb (decodeOf rec .current) 1))
+    not-put most f = call-acts rec x (lets most) ∙ rw (w .is, sees, overflows f, goes false f, over-nil (x .received) 0) (by (eqb (d .current) 1))
       where
         by : (c : Bool) → onlyTells rec (lent (x .cmd) (cond c (x .part0) (x .part0)) (cond c (x .part1) (x .part1)) (x .sent) (x .received)) (overflowed (pos n)) ≡ onlyTells rec x (overflowed (pos n))
         by true = refl
         by false = refl
 
-    module _ (most : n ≤ largestBlock) (f : fits (currentOf rec x) (decodeOf rec .position) n ≡ true) where
-      admitted : Admits (put (decodeOf rec .position) (blockSent n x)) (currentOf rec x)
+    module _ (most : n ≤ largestBlock) (f : fits p (d .position) n ≡ true) where
+      admitted : Admits (put (d .position) (blockSent n x)) p
       admitted = (i .place, (omega (arith, sized), omega (arith, sized)), rw sized f)
 
-      zoned : zoneIn (length (currentOf rec x)) (roomOf (length (currentOf rec x)) (suc (decodeOf rec .position)) (bytesIn (take (decodeOf rec .position) (objects (currentOf rec x))) + n)) ≡ zone (withBlock n rec x) (suc (decodeOf rec .position))
+      zoned : zoneIn (length p) (roomOf (length p) (suc (d .position)) (bytesIn (take (d .position) (objects p)) + n)) ≡ zone (withBlock n rec x) (suc (d .position))
       unfolding zone room
-      zoned = rw (obeys _ (currentOf rec x) (i .right) admitted .same-length, put-next (decodeOf rec .position) (blockSent n x) (currentOf rec x) (i .right) admitted .1, before, sized) refl
+      zoned = rw (obeys _ p (i .right) admitted .same-length, put-next (d .position) (blockSent n x) p (i .right) admitted .1, before, sized) refl
 
       -- at number k, with c bytes carried
       abbrev left : ℕ → ℕ → Deed
       left k c =
-          let l : ℕ = length (currentOf rec x) in
-          carrying c (cond (zoneIn l (roomOf l k (bytesIn (take (decodeOf rec .position) (objects (currentOf rec x))) + c))) (checked (at (decodeOf rec) k) warned) (good (at (decodeOf rec) k)))
+          let l : ℕ = length p in
+          carrying c (cond (zoneIn l (roomOf l k (bytesIn (take (d .position) (objects p)) + c))) (checked (at d k) warned) (good (at d k)))
 
-      puts : act Write (decodeOf rec) (x .cmd) (x .sent) (seenOf (currentOf rec x))
-          ≡ carrying n (cond (zone (withBlock n rec x) (suc (decodeOf rec .position))) (checked (at (decodeOf rec) (suc (decodeOf rec .position))) warned) (good (at (decodeOf rec) (suc (decodeOf rec .position)))))
+      puts : act Write d (x .cmd) (x .sent) (seenOf p)
+          ≡ carrying n (cond (zone (withBlock n rec x) (suc (d .position))) (checked (at d (suc (d .position))) warned) (good (at d (suc (d .position)))))
       unfolding act writing wrote bytesIn seenOf
       puts =
-          let there : Deed = act Write (decodeOf rec) (x .cmd) (x .sent) (seenOf (currentOf rec x)) in
-          let e : there ≡ left (decodeOf rec .position + 1) (length (take n (x .sent)) + 0) = rw (w .variable, w .asks, some-bytes, goes true f) refl in
-          let next : decodeOf rec .position + 1 ≡ suc (decodeOf rec .position) = omega arith in
+          let there : Deed = act Write d (x .cmd) (x .sent) (seenOf p) in
+          let e : there ≡ left (d .position + 1) (length (take n (x .sent)) + 0) = rw (w .variable, w .asks, some-bytes, goes true f) refl in
+          let next : d .position + 1 ≡ suc (d .position) = omega arith in
           let all : length (take n (x .sent)) + 0 ≡ n = omega (arith, sized) in
-          e ∙ ap₂ left next all ∙ ap (λ (z : Bool). carrying n (cond z (checked (at (decodeOf rec) (suc (decodeOf rec .position))) warned) (good (at (decodeOf rec) (suc (decodeOf rec .position)))))) zoned
+          e ∙ ap₂ left next all ∙ ap (λ (z : Bool). carrying n (cond z (checked (at d (suc (d .position))) warned) (good (at d (suc (d .position)))))) zoned
 
       -- ---- the call
 
       pub put-whole : commandCall rec x ≡ blockPut n rec x
       unfolding applied acted laidOut looksAt eventsOf putFrom occurs statusOf keptOf
-      put-whole = call-acts rec x (lets most) ∙ rw (w .is, sees, puts, goes true f) (by (zone (withBlock n rec x) (suc (decodeOf rec .position))) (eqb (decodeOf rec .current) 1))
+      put-whole = call-acts rec x (lets most) ∙ rw (w .is, sees, puts, goes true f) (by (zone (withBlock n rec x) (suc (d .position))) (eqb (d .current) 1))
         where
           e : Drive
-          e = at (decodeOf rec) (suc (decodeOf rec .position))
+          e = at d (suc (d .position))
 
           deed : Bool → Deed
           deed z = carrying n (cond z (checked e warned) (good e))
 
           laid : List ℕ → List ℕ
-          laid q = occur (put (decodeOf rec .position) (blockSent n x)) q
+          laid q = occur (put (d .position) (blockSent n x)) q
 
           -- z: in the zone; c: partition 1 is current
           by : (z c : Bool)
