@@ -97,7 +97,7 @@ promises =
     -- a filemark has no bytes, whatever the largest block
     ∷ (1048576, 0x80000000 + 1048576, true) ∷ (0, 0x80000000 + 1048576, false) ∷ []
 
--- ---- a block of n bytes on a blank image, under a drive as a mount leaves it: for any bytes lent, and any sent
+-- ---- a block of n bytes on a blank image, under a drive that has told its mount: for any bytes lent, and any sent
 
 -- of n + 20 bytes: it fills the image, and stands there alone
 abbrev pub Fills : ℕ → Type 0
