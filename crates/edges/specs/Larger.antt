@@ -62,8 +62,8 @@ unfoldable pub lengthsAsked : List Trap
 lengthsAsked =
     -- variable WRITE: above the largest block a field error, before 2/3A/00, 7/27/00 (X-14) and number 2
     turns (bare 0 0 nothingKept) (six 0x0A 0 1048577) [] (check 0) (bare 0 0 (plain 5 0x24 0)) ∷
-    turns (loaded 0 0 0 nothingKept) (six 0x0A 0 1048577) E (check 0) (loaded 0 0 0 (plain 5 0x24 0)) ∷
-    turns (loaded 0 0 0 nothingKept) (six 0x0A 0 0xFFFFFF) E (check 0) (loaded 0 0 0 (plain 5 0x24 0)) ∷
+    turns (loaded 0 2 0 nothingKept) (six 0x0A 0 1048577) E (check 0) (loaded 0 2 0 (plain 5 0x24 0)) ∷
+    turns (loaded 0 2 0 nothingKept) (six 0x0A 0 0xFFFFFF) E (check 0) (loaded 0 2 0 (plain 5 0x24 0)) ∷
     -- up to it none
     turns (bare 0 0 nothingKept) (six 0x0A 0 1048576) [] (check 0) (bare 0 0 (plain 2 0x3A 0)) ∷
     turns (loaded 0 0 0 nothingKept) (six 0x0A 0 1048576) guarded (check 0) (loaded 0 0 0 (plain 7 0x27 0)) ∷
