@@ -1,0 +1,226 @@
+/* cartridge.h: a cartridge's partition in a file. The library is lent private pages of it; the file gets what they hold
+ * when it is made final, in an order that leaves the file a sound image at every moment. Part of daemon.c.
+ *
+ * Pages that are shared with the file go to the disk when the kernel likes, and in any order: lost mains could leave a
+ * trailer that counts entries which never came, or an old object with a new one's bytes. Private pages go nowhere. So
+ * what changed is copied to the file in three steps, each on the disk (msync) before the next begins:
+ *   1. where objects were cut that the file still has, a trailer that ends before the first of them;
+ *   2. the data and the entries, of which the file's trailer then tells nothing yet;
+ *   3. the trailer.
+ * Lost mains leave what was final before, or that up to where it was cut, or what is final now: never less than what
+ * stands below every change, and always sound, if the disk writes a sector whole or not at all. (The trailer lies in
+ * one sector if the image's length is a multiple of 16. If it does not, it may be torn, and a mount then says so.) */
+#ifndef CARTRIDGE_H
+#define CARTRIDGE_H
+
+#include "../codes.h"
+#include "../decode.h"
+#include "stormtoggle.h"
+#include <errno.h>
+#include <fcntl.h>
+#include <stdio.h>
+#include <string.h>
+#include <sys/file.h>
+#include <sys/mman.h>
+#include <sys/stat.h>
+#include <unistd.h>
+
+/* The image, as document 01 lays it out. */
+enum { TRAILER = 16, TRAILER_N = 0, TRAILER_D = 8, ENTRY = 4 };
+#define ENTRY_END 0x7fffffffu
+
+struct range {
+    size_t from, to;
+};
+
+struct cartridge {
+    const char *name;
+    int fd;
+    size_t length;
+    uint8_t *lent; /* private pages: what the library reads and writes */
+    uint8_t *file; /* shared pages: what is final; NULL if the file may only be read */
+
+    /* What the library has changed since it was last made final. */
+    int is_changed;
+    uint32_t lowest; /* no object below this number */
+    struct range data, entries;
+};
+
+/* ---- what an image that the library found sound says */
+
+static inline const uint8_t *trailer_of(const struct cartridge *c, const uint8_t *image)
+{
+    return image + c->length - TRAILER;
+}
+
+static inline uint32_t objects_in(const struct cartridge *c, const uint8_t *image)
+{
+    return number_at(trailer_of(c, image) + TRAILER_N);
+}
+
+/* Where the entries of so many objects start. */
+static inline size_t directory_of(const struct cartridge *c, uint32_t objects)
+{
+    return c->length - TRAILER - ENTRY * (size_t)objects;
+}
+
+/* Where the data of so many objects end. */
+static inline size_t end_of(const struct cartridge *c, uint32_t objects)
+{
+    return objects == 0 ? 0 : number_at(c->lent + directory_of(c, objects)) & ENTRY_END;
+}
+
+/* ---- making it final */
+
+static inline void widen(struct range *r, size_t from, size_t to)
+{
+    if (from >= to)
+        return;
+    if (r->from == r->to)
+        *r = (struct range){from, to};
+    r->from = from < r->from ? from : r->from;
+    r->to = to > r->to ? to : r->to;
+}
+
+/* The library has put or cut objects from this number on; a long erase has zeroed what is free, too. */
+static inline void note_change(struct cartridge *c, uint32_t from, int is_zeroed)
+{
+    uint32_t objects = objects_in(c, c->lent);
+    c->lowest = c->is_changed && c->lowest < from ? c->lowest : from;
+    c->is_changed = 1;
+    widen(&c->data, end_of(c, from), is_zeroed ? directory_of(c, objects) : end_of(c, objects));
+    widen(&c->entries, directory_of(c, objects), directory_of(c, from));
+}
+
+static inline size_t bytes_not_final(const struct cartridge *c)
+{
+    return c->data.to - c->data.from + (c->entries.to - c->entries.from);
+}
+
+/* A step ends when the disk has it. */
+static inline int is_on_disk(const struct cartridge *c)
+{
+    return msync(c->file, c->length, MS_SYNC) == 0;
+}
+
+static inline void copy_to_file(struct cartridge *c, struct range r)
+{
+    memcpy(c->file + r.from, c->lent + r.from, r.to - r.from);
+}
+
+/* Step 1: of the objects that the file has, those below every change. */
+static inline int cut_file(struct cartridge *c)
+{
+    uint8_t cut[TRAILER];
+    if (objects_in(c, c->file) <= c->lowest)
+        return 1;
+    memcpy(cut, trailer_of(c, c->file), TRAILER);
+    memcpy(cut + TRAILER_N, (uint8_t[]){FOUR_BYTES(c->lowest)}, ENTRY);
+    memcpy(cut + TRAILER_D, (uint8_t[]){FOUR_BYTES(directory_of(c, c->lowest))}, ENTRY);
+    memcpy(c->file + c->length - TRAILER, cut, TRAILER);
+    return is_on_disk(c);
+}
+
+/* The private pages of a range are given back: the file's own have the same bytes now. */
+static inline void give_back(struct cartridge *c, struct range r)
+{
+    size_t page = (size_t)sysconf(_SC_PAGESIZE), from = r.from / page * page;
+    madvise(c->lent + from, r.to - from, MADV_DONTNEED);
+}
+
+/* False if the system could not: then what was changed is kept, and the next call tries again. */
+static inline int make_final(struct cartridge *c)
+{
+    if (!c->is_changed)
+        return 1;
+    if (!cut_file(c))
+        return 0;
+    copy_to_file(c, c->data);
+    copy_to_file(c, c->entries);
+    if (!is_on_disk(c))
+        return 0;
+    copy_to_file(c, (struct range){c->length - TRAILER, c->length});
+    if (!is_on_disk(c))
+        return 0;
+    give_back(c, c->data);
+    give_back(c, (struct range){c->entries.from, c->length});
+    c->is_changed = 0;
+    c->data = c->entries = (struct range){0, 0};
+    return 1;
+}
+
+/* ---- opening */
+
+static inline int say_failed(const char *name, const char *what)
+{
+    fprintf(stderr, "%s: %s: %s\n", name, what, strerror(errno));
+    return 0;
+}
+
+/* A new file, which is blank. Its bytes are allocated now: a page that the disk has no room for could not be told later
+ * but by a signal. */
+static inline int make_blank(const char *name, size_t length)
+{
+    int fd = open(name, O_RDWR | O_CREAT | O_EXCL | O_CLOEXEC, 0640);
+    if (fd < 0)
+        return say_failed(name, "cannot be made");
+    errno = posix_fallocate(fd, 0, (off_t)length);
+    void *image = errno == 0 ? mmap(NULL, length, PROT_READ | PROT_WRITE, MAP_SHARED, fd, 0) : MAP_FAILED;
+    if (image == MAP_FAILED)
+        return say_failed(name, "cannot be made so long");
+    unsigned refusal = STORMTOGGLE_REFUSAL(stormtoggle_blank(image, length));
+    int is_made = refusal == 0 && msync(image, length, MS_SYNC) == 0 && fsync(fd) == 0;
+    munmap(image, length);
+    close(fd);
+    if (!is_made)
+        fprintf(stderr, "%s: cannot be made blank: %s\n", name,
+                refusal == 0 ? strerror(errno) : refusal_in_words(refusal));
+    return is_made;
+}
+
+/* For writing, or else for reading; and for nobody else. */
+static inline int open_file(struct cartridge *c)
+{
+    struct stat about;
+    int may_write = 1;
+    c->fd = open(c->name, O_RDWR | O_CLOEXEC);
+    if (c->fd < 0 && (errno == EACCES || errno == EROFS || errno == EPERM)) {
+        may_write = 0;
+        c->fd = open(c->name, O_RDONLY | O_CLOEXEC);
+    }
+    if (c->fd < 0 || fstat(c->fd, &about) != 0)
+        return say_failed(c->name, "cannot be opened");
+    if (flock(c->fd, LOCK_EX | LOCK_NB) != 0)
+        return say_failed(c->name, "is in use by another drive or tool");
+    if (!S_ISREG(about.st_mode) || about.st_size < STORMTOGGLE_SHORTEST_IMAGE ||
+        about.st_size > STORMTOGGLE_LONGEST_IMAGE) {
+        fprintf(stderr, "%s: is no file of %d to %d bytes\n", c->name, STORMTOGGLE_SHORTEST_IMAGE,
+                STORMTOGGLE_LONGEST_IMAGE);
+        return 0;
+    }
+    c->length = (size_t)about.st_size;
+    errno = may_write ? posix_fallocate(c->fd, 0, about.st_size) : 0;
+    if (errno != 0)
+        return say_failed(c->name, "cannot be allocated whole");
+    c->file = may_write ? mmap(NULL, c->length, PROT_READ | PROT_WRITE, MAP_SHARED, c->fd, 0) : NULL;
+    return c->file != MAP_FAILED || say_failed(c->name, "cannot be mapped");
+}
+
+/* A partition whose file may only be read is lent protected, so that a host is told why it cannot write. (The image may
+ * be unsound, and is then not protected: the mount refuses it.) */
+static inline int open_cartridge(struct cartridge *c, const char *name)
+{
+    *c = (struct cartridge){.name = name};
+    if (!open_file(c))
+        return 0;
+    c->lent = mmap(NULL, c->length, PROT_READ | PROT_WRITE, MAP_PRIVATE, c->fd, 0);
+    if (c->lent == MAP_FAILED)
+        return say_failed(name, "cannot be mapped");
+    if (c->file == NULL) {
+        stormtoggle_protect(c->lent, c->length, 1);
+        fprintf(stderr, "%s: may only be read, and is offered as protected\n", name);
+    }
+    return 1;
+}
+
+#endif
