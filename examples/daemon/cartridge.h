@@ -39,6 +39,7 @@ struct cartridge {
     size_t length;
     uint8_t *lent; /* private pages: what the library reads and writes */
     uint8_t *file; /* shared pages: what is final; NULL if the file may only be read */
+    uint32_t told; /* the most objects that the trailer on the disk may tell of */
 
     /* What the library has changed since it was last made final. */
     int is_changed;
@@ -48,14 +49,9 @@ struct cartridge {
 
 /* ---- what an image that the library found sound says */
 
-static inline const uint8_t *trailer_of(const struct cartridge *c, const uint8_t *image)
-{
-    return image + c->length - TRAILER;
-}
-
 static inline uint32_t objects_in(const struct cartridge *c, const uint8_t *image)
 {
-    return number_at(trailer_of(c, image) + TRAILER_N);
+    return number_at(image + c->length - TRAILER + TRAILER_N);
 }
 
 /* Where the entries of so many objects start. */
@@ -108,17 +104,19 @@ static inline void copy_to_file(struct cartridge *c, struct range r)
     memcpy(c->file + r.from, c->lent + r.from, r.to - r.from);
 }
 
-/* Step 1: of the objects that the file has, those below every change. */
-static inline int cut_file(struct cartridge *c)
+/* Puts a trailer on the disk that tells of so many objects. Until that is done, the disk may have the one before. */
+static inline int tell_objects(struct cartridge *c, uint32_t objects)
 {
-    uint8_t cut[TRAILER];
-    if (objects_in(c, c->file) <= c->lowest)
-        return 1;
-    memcpy(cut, trailer_of(c, c->file), TRAILER);
-    memcpy(cut + TRAILER_N, (uint8_t[]){FOUR_BYTES(c->lowest)}, ENTRY);
-    memcpy(cut + TRAILER_D, (uint8_t[]){FOUR_BYTES(directory_of(c, c->lowest))}, ENTRY);
-    memcpy(c->file + c->length - TRAILER, cut, TRAILER);
-    return is_on_disk(c);
+    uint8_t trailer[TRAILER];
+    memcpy(trailer, c->lent + c->length - TRAILER, TRAILER);
+    memcpy(trailer + TRAILER_N, (uint8_t[]){FOUR_BYTES(objects)}, ENTRY);
+    memcpy(trailer + TRAILER_D, (uint8_t[]){FOUR_BYTES(directory_of(c, objects))}, ENTRY);
+    memcpy(c->file + c->length - TRAILER, trailer, TRAILER);
+    c->told = objects > c->told ? objects : c->told;
+    if (!is_on_disk(c))
+        return 0;
+    c->told = objects;
+    return 1;
 }
 
 /* The private pages of a range are given back: the file's own have the same bytes now. */
@@ -128,19 +126,26 @@ static inline void give_back(struct cartridge *c, struct range r)
     madvise(c->lent + from, r.to - from, MADV_DONTNEED);
 }
 
+/* A private page shows the file's bytes until something is stored into it, and a command that put just what stood there
+ * may have stored nothing. The trailer's is made private before the file gets another. */
+static inline void keep_trailer(struct cartridge *c)
+{
+    volatile uint8_t *trailer = c->lent + c->length - TRAILER;
+    trailer[0] = trailer[0];
+    trailer[TRAILER - 1] = trailer[TRAILER - 1];
+}
+
 /* False if the system could not: then what was changed is kept, and the next call tries again. */
 static inline int make_final(struct cartridge *c)
 {
     if (!c->is_changed)
         return 1;
-    if (!cut_file(c))
+    keep_trailer(c);
+    if (c->told > c->lowest && !tell_objects(c, c->lowest))
         return 0;
     copy_to_file(c, c->data);
     copy_to_file(c, c->entries);
-    if (!is_on_disk(c))
-        return 0;
-    copy_to_file(c, (struct range){c->length - TRAILER, c->length});
-    if (!is_on_disk(c))
+    if (!is_on_disk(c) || !tell_objects(c, objects_in(c, c->lent)))
         return 0;
     give_back(c, c->data);
     give_back(c, (struct range){c->entries.from, c->length});
@@ -216,6 +221,7 @@ static inline int open_cartridge(struct cartridge *c, const char *name)
     c->lent = mmap(NULL, c->length, PROT_READ | PROT_WRITE, MAP_PRIVATE, c->fd, 0);
     if (c->lent == MAP_FAILED)
         return say_failed(name, "cannot be mapped");
+    c->told = objects_in(c, c->lent);
     if (c->file == NULL) {
         stormtoggle_protect(c->lent, c->length, 1);
         fprintf(stderr, "%s: may only be read, and is offered as protected\n", name);
