@@ -1,0 +1,71 @@
+# stages.sh: sourced by accept: starts and stops a drive for a stage, runs stages, counts and times them. Needs
+# examples/daemon/transport.sh.
+# shellcheck shell=bash disable=SC2154
+
+accepted=target/accept
+passed=0 failed=0
+
+# ---- a drive
+
+free_port() {
+    local port
+    for port in {20000..29999}; do
+        (exec 3<>"/dev/tcp/127.0.0.1/$port") 2>/dev/null || break
+    done
+    echo "$port"
+}
+
+# Serves a cartridge as a user does, with ./serve, and tells its address in url.
+start_drive() { # NAME SERVE-WORD...
+    local said=$accepted/$1.serve
+    rm -f "$accepted/$1.log"
+    ./serve --listen "127.0.0.1:$(free_port)" --log "$accepted/$1.log" "${@:2}" >"$said" 2>&1 &
+    drive=$!
+    wait_for "$drive" grep -q '^ready: ' "$said"
+    url=$(sed -n 's/^ready: //p' "$said")
+    [ -n "$url" ] && return
+    echo "FAILED: the drive was not offered:"
+    cat "$said"
+    return 1
+}
+
+# A drive stops cleanly, and has said nothing to its operator.
+stop_drive() { # NAME
+    local status=0
+    kill -TERM "$drive"
+    await "$drive" || status=$?
+    [ "$status" -eq 0 ] || echo "FAILED: the drive ended with status $status"
+    ! grep -n OPERATOR "$accepted/$1.serve" || status=1
+    return "$status"
+}
+
+# A stage on a drive of its own: words for serve, then --, then the command, which is given the drive's address.
+on_drive() { # NAME SERVE-WORD... -- COMMAND...
+    local name=$1 words=() status=0
+    shift
+    while [ "$1" != -- ]; do words+=("$1") && shift; done
+    start_drive "$name" "${words[@]}" || return
+    "${@:2}" "$url" || status=1
+    stop_drive "$name" || status=1
+    return "$status"
+}
+
+# ---- stages
+
+# Runs a stage: of what it says, the checks that hold are counted, and all else is shown. Its whole output is kept.
+stage() { # NAME WHAT COMMAND...
+    local file=$accepted/$1.stage status=0 began=$SECONDS checks
+    echo "stage $((passed + failed + 1)), $2"
+    "${@:3}" >"$file" 2>&1 || status=$?
+    checks=$(grep -c '^ok: ' "$file")
+    ! grep -q '^FAILED' "$file" || status=1
+    [ "$checks" -gt 0 ] || status=1
+    grep -v '^ok: ' "$file" | sed 's/^/    /'
+    if [ "$status" -eq 0 ]; then
+        passed=$((passed + 1))
+        echo "    passed: $checks checks, $((SECONDS - began)) s"
+    else
+        failed=$((failed + 1))
+        echo "    FAILED after $((SECONDS - began)) s; the whole of it is in $file"
+    fi
+}
