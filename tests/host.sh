@@ -15,3 +15,8 @@ else
 fi
 install_packages "${missing[@]}" || exit 1
 flags=(-std=c99 -pedantic -Wall -Wextra -Werror -Iinclude)
+
+# Builds the operator's tool over the static library.
+build_cartridge() { # PROGRAM
+    "$compiler" "${flags[@]}" -O2 -o "$1" tools/cartridge.c target/staticlib/libstormtoggle.a
+}
