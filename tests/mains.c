@@ -107,8 +107,6 @@ static int watched_msync(void *at, size_t length, int flags)
     int which = at == drive.tape[1].file;
     const struct cartridge *c = &drive.tape[which];
     struct disk *d = &disks[which];
-    if (at != c->file)
-        return 0; /* a blank that is made: no drive has it yet */
     note_lowest();
     steps++;
     must(length == c->length && flags == MS_SYNC, "a step is not waited for whole");
@@ -223,13 +221,20 @@ static void play_one(void)
 
 /* ---- cartridges */
 
+static int make_blank(char *name, size_t length)
+{
+    int fd = mkstemp(strcpy(name, "/tmp/mains.XXXXXX"));
+    if (fd < 0 || ftruncate(fd, (off_t)length) != 0)
+        return 0;
+    void *image = mmap(NULL, length, PROT_READ | PROT_WRITE, MAP_SHARED, fd, 0);
+    close(fd);
+    return image != MAP_FAILED && stormtoggle_blank(image, length) == 0 && munmap(image, length) == 0;
+}
+
 static void begin(char names[2][32])
 {
     memset(disks, 0, sizeof disks);
     for (int i = 0; i < 2; i++) {
-        strcpy(names[i], "/tmp/mains.XXXXXX");
-        close(mkstemp(names[i]));
-        unlink(names[i]);
         size_t length = 64 + 16 * (size_t)draw((LONGEST - 64) / 16);
         if (!make_blank(names[i], length) || !open_cartridge(&drive.tape[i], names[i]))
             exit(2);

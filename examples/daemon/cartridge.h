@@ -162,27 +162,6 @@ static inline int say_failed(const char *name, const char *what)
     return 0;
 }
 
-/* A new file, which is blank. Its bytes are allocated now: a page that the disk has no room for could not be told later
- * but by a signal. */
-static inline int make_blank(const char *name, size_t length)
-{
-    int fd = open(name, O_RDWR | O_CREAT | O_EXCL | O_CLOEXEC, 0640);
-    if (fd < 0)
-        return say_failed(name, "cannot be made");
-    errno = posix_fallocate(fd, 0, (off_t)length);
-    void *image = errno == 0 ? mmap(NULL, length, PROT_READ | PROT_WRITE, MAP_SHARED, fd, 0) : MAP_FAILED;
-    if (image == MAP_FAILED)
-        return say_failed(name, "cannot be made so long");
-    unsigned refusal = STORMTOGGLE_REFUSAL(stormtoggle_blank(image, length));
-    int is_made = refusal == 0 && msync(image, length, MS_SYNC) == 0 && fsync(fd) == 0;
-    munmap(image, length);
-    close(fd);
-    if (!is_made)
-        fprintf(stderr, "%s: cannot be made blank: %s\n", name,
-                refusal == 0 ? strerror(errno) : refusal_in_words(refusal));
-    return is_made;
-}
-
 /* For writing, or else for reading; and for nobody else. */
 static inline int open_file(struct cartridge *c)
 {
@@ -204,6 +183,7 @@ static inline int open_file(struct cartridge *c)
         return 0;
     }
     c->length = (size_t)about.st_size;
+    /* A page that the disk has no room for could not be told later but by a signal. */
     errno = may_write ? posix_fallocate(c->fd, 0, about.st_size) : 0;
     if (errno != 0)
         return say_failed(c->name, "cannot be allocated whole");

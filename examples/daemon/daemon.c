@@ -17,7 +17,6 @@
 enum { DONE = 0, SYSTEM_REFUSED = 1, WRONG_USE = 2, TORN = 3 };
 
 struct options {
-    size_t blank; /* how long to make the files; 0 if they are there */
     const char *socket, *log, *user, *files[2];
     int is_exact;
 };
@@ -25,26 +24,12 @@ struct options {
 static const char usage[] =
     "daemon [OPTIONS] --socket PATH CARTRIDGE [SECOND]: a tape drive with this cartridge, of one or two partitions\n"
     "  --socket PATH   where the transport connects\n"
-    "  --blank SIZE    make the files, each blank and of so many bytes (K, M, G for powers of 1024)\n"
     "  --exact         translate nothing for stock tape programs\n"
     "  --log FILE      append a line for each command to FILE; without it they go to standard output\n"
     "  --user NAME     whose rights to keep, if started as root (default: nobody)\n"
     "Exit status: 0 stopped by SIGINT or SIGTERM, 1 the system refused, 2 wrong use, 3 the cartridge is torn.\n";
 
 /* ---- options */
-
-static int is_size(const char *text, size_t *size)
-{
-    char *end;
-    errno = 0;
-    unsigned long long number = strtoull(text, &end, 10);
-    int shift = *end == 'K' ? 10 : *end == 'M' ? 20 : *end == 'G' ? 30 : 0;
-    if (end == text || text[0] == '-' || errno != 0 || end[shift != 0] != '\0' ||
-        number > (unsigned long long)STORMTOGGLE_LONGEST_IMAGE >> shift)
-        return 0;
-    *size = (size_t)number << shift;
-    return *size >= STORMTOGGLE_SHORTEST_IMAGE;
-}
 
 /* The option's value, or NULL if this is another option. */
 static const char *value_of(char **argument, const char *name)
@@ -56,8 +41,6 @@ static const char *value_of(char **argument, const char *name)
 static int take_option(struct options *o, char **argument)
 {
     const char *value;
-    if ((value = value_of(argument, "--blank")) != NULL)
-        return is_size(value, &o->blank) ? 2 : 0;
     if ((value = value_of(argument, "--socket")) != NULL)
         return o->socket = value, 2;
     if ((value = value_of(argument, "--log")) != NULL)
@@ -107,7 +90,7 @@ static void say_refused(const struct drive *d)
 static int load(struct drive *d, const struct options *o)
 {
     for (int i = 0; i < 2 && o->files[i] != NULL; i++)
-        if ((o->blank > 0 && !make_blank(o->files[i], o->blank)) || !open_cartridge(&d->tape[i], o->files[i]))
+        if (!open_cartridge(&d->tape[i], o->files[i]))
             return SYSTEM_REFUSED;
     stormtoggle_fresh(d->record, sizeof d->record);
     if (mount(d) == 0)
@@ -273,6 +256,7 @@ static int run(struct drive *d, const struct options *o)
         say_failed(o->user, "its rights cannot be taken");
         return SYSTEM_REFUSED;
     }
+    signal(SIGPIPE, SIG_IGN); /* who reads the log may go, and the drive stays */
     sigemptyset(&ends);
     sigaddset(&ends, SIGINT);
     sigaddset(&ends, SIGTERM);
