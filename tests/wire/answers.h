@@ -68,7 +68,7 @@ static inline struct reply ask_or_end(struct wire *wire, const struct request *r
     struct reply reply = ask(&wire->initiator, request);
     if (reply.status != NO_ANSWER)
         return reply;
-    printf("FAILED: %s: the wire gives no answer: %s\n", wire->subject, iscsi_get_error(wire->initiator.context));
+    printf("FAILED: %s: no answer within %d seconds, or the connection is lost\n", wire->subject, SECONDS_TO_WAIT);
     printf("%lu passed, %lu failed, and the rest was not tried\n", checks_passed, checks_failed + 1);
     exit(EXIT_FAILURE);
 }

@@ -35,7 +35,7 @@ static inline void expect_standard_inquiry(struct wire *wire)
     expect_number(wire, "the removable bit, alone in byte 1", whole[1], 0x80);
     expect_at_least(wire, "the version", whole[2], 3);
     expect_number(wire, "the response format", whole[3] & 0x0f, 2);
-    expect_number(wire, "the additional length", whole[4], length - 5);
+    expect_number(wire, "the length by the additional length", whole[4] + 5u, length);
     expect_text(wire, "the vendor", whole + 8, "STRMTGL ");
     expect_text(wire, "the product", whole + 16, "CARTRIDGE DRIVE ");
     wire->subject = "INQUIRY cut at 5";
@@ -73,12 +73,17 @@ static inline size_t count_graphic(const uint8_t *at, size_t length)
     return count;
 }
 
+static inline size_t rest_of_page(size_t length)
+{
+    return length < 4 ? 0 : length - 4;
+}
+
 /* The head of a page: type, page code, and the number of bytes behind the four. */
 static inline void expect_page_head(const struct wire *wire, uint8_t page, size_t length)
 {
     expect_number(wire, "the peripheral type", wire->room[0], 0x01);
     expect_number(wire, "the page code", wire->room[1], page);
-    expect_number(wire, "the page length", (size_t)wire->room[2] << 8 | wire->room[3], length - 4);
+    expect_number(wire, "the length by the page length", ((size_t)wire->room[2] << 8 | wire->room[3]) + 4, length);
 }
 
 static inline void expect_pages(struct wire *wire)
@@ -88,12 +93,13 @@ static inline void expect_pages(struct wire *wire)
     try_step(wire, &supported);
     size_t length = ask_inquiry(wire, "INQUIRY page 80h", "12 01 80 00 FF 00");
     expect_page_head(wire, 0x80, length);
-    expect_at_least(wire, "the serial number's length", length - 4, 1);
-    expect_number(wire, "the graphic characters of the serial number", count_graphic(wire->room + 4, length - 4),
-                  length - 4);
+    expect_at_least(wire, "the length with a serial number", length, 5);
+    expect_number(wire, "the length with the graphic characters of the serial number",
+                  4 + count_graphic(wire->room + 4, rest_of_page(length)), length);
     length = ask_inquiry(wire, "INQUIRY page 83h", "12 01 83 00 FF 00");
     expect_page_head(wire, 0x83, length);
-    expect_at_least(wire, "the number of well-formed designators", count_designators(wire->room + 4, length - 4), 1);
+    expect_at_least(wire, "the number of well-formed designators",
+                    count_designators(wire->room + 4, rest_of_page(length)), 1);
     struct step unknown = {.subject = "INQUIRY page 7Fh", .command = "12 01 7F 00 FF 00", .room = ALLOCATION,
                            .sense = FIELD, .received = ""};
     try_step(wire, &unknown);
@@ -172,7 +178,6 @@ static inline void try_identity(struct wire *wire)
     expect_pages(wire);
     try_steps(wire, logical_units, COUNT(logical_units));
     expect_no_unit(wire);
-    try_unserved_codes(wire);
 }
 
 #endif

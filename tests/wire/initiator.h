@@ -107,31 +107,34 @@ static inline struct reply reply_of(const struct scsi_task *task, size_t room_le
     return reply;
 }
 
+/* Data goes straight into the room, or from where it lies, whatever the status. */
 static inline struct scsi_task *task_of(const struct request *request)
 {
     uint8_t command[LONGEST_COMMAND] = {0};
-    int direction = request->sent_length > 0 ? SCSI_XFER_WRITE : request->room_length > 0 ? SCSI_XFER_READ
-                                                                                           : SCSI_XFER_NONE;
-    size_t transfer = request->sent_length > 0 ? request->sent_length : request->room_length;
+    size_t sent = request->sent_length, room = request->room_length;
+    int direction = sent > 0 ? SCSI_XFER_WRITE : room > 0 ? SCSI_XFER_READ : SCSI_XFER_NONE;
     memcpy(command, request->command, request->command_length);
-    return scsi_create_task((int)request->command_length, command, direction, (int)transfer);
+    struct scsi_task *task = scsi_create_task((int)request->command_length, command, direction, (int)(sent + room));
+    if (task == NULL)
+        give_up("making a task", "out of memory");
+    if (sent > 0 && scsi_task_add_data_out_buffer(task, (int)sent, (uint8_t *)(uintptr_t)request->sent) != 0)
+        give_up("lending what is sent", "out of memory");
+    if (room > 0 && scsi_task_add_data_in_buffer(task, (int)room, request->room) != 0)
+        give_up("lending the room", "out of memory");
+    return task;
 }
 
-/* Sends the command block and waits for the whole answer. Data goes straight into the room, whatever the status. */
+/* Sends the command block and waits for the whole answer. */
 static inline struct reply ask(const struct initiator *initiator, const struct request *request)
 {
     struct reply reply = {.status = NO_ANSWER};
     if (request->command_length > LONGEST_COMMAND || (request->sent_length > 0 && request->room_length > 0))
         give_up("a request", "its command block is too long, or its data goes both ways");
     struct scsi_task *task = task_of(request);
-    if (task == NULL)
-        give_up("making a task", "out of memory");
-    uint8_t *bytes = request->sent_length > 0 ? (uint8_t *)(uintptr_t)request->sent : request->room;
-    struct iscsi_data data = {.size = request->sent_length + request->room_length, .data = bytes};
     if (request->room_length > 0)
         memset(request->room, UNTOUCHED, request->room_length);
-    if (iscsi_scsi_command_sync(initiator->context, initiator->lun, task, data.size > 0 ? &data : NULL) != NULL &&
-        task->status >= 0 && task->status <= 0xff)
+    if (iscsi_scsi_command_sync(initiator->context, initiator->lun, task, NULL) != NULL && task->status >= 0 &&
+        task->status <= 0xff)
         reply = reply_of(task, request->room_length);
     scsi_free_scsi_task(task);
     return reply;

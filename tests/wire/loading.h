@@ -147,12 +147,12 @@ static inline void expect_partition_page(struct wire *wire, const char *subject,
     struct reply reply = ask_receiving(wire, command, 255);
     expect_good(wire, &reply);
     expect_at_least(wire, "its length", reply.received, start + 8);
-    expect_number(wire, "the mode data length", wire->room[0], reply.received - 1);
+    expect_number(wire, "the length by the mode data length", wire->room[0] + 1u, reply.received);
     expect_number(wire, "the medium type", wire->room[1], 0);
     expect_number(wire, "the device-specific parameter", wire->room[2], 0);
     expect_number(wire, "the block descriptor length", wire->room[3], descriptor_length);
     expect_number(wire, "the page code", wire->room[start] & 0x3f, 0x11);
-    expect_number(wire, "the page length", wire->room[start + 1], reply.received - start - 2);
+    expect_number(wire, "the length by the page length", start + 2 + wire->room[start + 1], reply.received);
     expect_number(wire, "the number of additional partitions", wire->room[start + 3], 0);
 }
 

@@ -11,7 +11,7 @@
 #include "identity.h"
 #include "loading.h"
 
-enum { CHECKS_IF_EXACT = 0, CHECKS_IF_STOCK = 0 };
+enum { CHECKS_IF_EXACT = 557, CHECKS_IF_STOCK = 637 };
 
 static void try_what_both_serve(struct wire *wire)
 {
@@ -19,6 +19,7 @@ static void try_what_both_serve(struct wire *wire)
     try_edges(wire);
     try_parameters(wire);
     try_claims(wire);
+    try_unserved_codes(wire);
 }
 
 static int try_exact(struct wire *wire)
