@@ -49,6 +49,10 @@ static const struct step claims[] = {
      EMPTY_SENSE, NULL},
     {"READ BLOCK LIMITS with room for 100", AS_IT_STANDS, 0, 0, "05 00 00 00 00 00", NULL, 100, NULL,
      "00 10 00 00 00 01", NULL},
+    {"operation code FFh with room for 100", AS_IT_STANDS, 0, 0, "FF 00 00 00 00 00", NULL, 100, NOT_SERVED, "", NULL},
+    {"operation code FFh with 10 bytes sent", AS_IT_STANDS, 0, 0, "FF 00 00 00 00 00", TEN("1"), 0, NOT_SERVED, NULL,
+     NULL},
+    {"TEST UNIT READY with 10 bytes sent", AS_IT_STANDS, 0, 0, "00 00 00 00 00 00", TEN("1"), 0, NULL, NULL, NULL},
     {"TEST UNIT READY with room for 100", AS_IT_STANDS, 0, 0, "00 00 00 00 00 00", NULL, 100, NULL, "", NULL},
 };
 

@@ -1,5 +1,5 @@
-/* identity.h: who is there, over the wire: INQUIRY and its pages, REPORT LUNS, a logical unit that is not there, and the
- * operation codes that nobody serves. Part of raw.c. */
+/* identity.h: who is there, over the wire: INQUIRY and its pages, REPORT LUNS, a logical unit that is not there, and
+ * the operation codes that nobody serves. Part of raw.c. */
 #ifndef IDENTITY_H
 #define IDENTITY_H
 

@@ -2,6 +2,7 @@
 #ifndef LOADING_H
 #define LOADING_H
 
+#include "identity.h"
 #include "parameters.h"
 
 #define TEST_UNIT_READY "00 00 00 00 00 00"
@@ -45,6 +46,24 @@ static const struct step met_by_field[] = {
     {"the attention comes before the fields: SPACE code 15 meets it", AS_IT_STANDS, 0, 0, "11 0F 000001 00", NULL, 0,
      CHANGED, NULL, NULL},
     {"the attention is met once: SPACE code 15", AS_IT_STANDS, 0, 0, "11 0F 000001 00", NULL, 0, FIELD, NULL,
+     AT_THE_BEGINNING},
+};
+static const struct step met_by_page[] = {
+    {"the attention comes before a page that the daemon answers: MODE SENSE page 11h", AS_IT_STANDS, 0, 0,
+     "1A 08 11 00 FF 00", NULL, 255, CHANGED, "", NULL},
+    {"the attention is met once: MODE SENSE page 11h with a subpage", AS_IT_STANDS, 0, 0, "1A 08 11 01 FF 00", NULL,
+     255, FIELD, "", AT_THE_BEGINNING},
+};
+static const struct step met_by_position[] = {
+    {"the attention comes before a translation: READ POSITION, form 01h", AS_IT_STANDS, 0, 0,
+     "34 01 00 00 00 00 00 00 00 00", NULL, 20, CHANGED, "", NULL},
+    {"the attention is met once: READ POSITION, form 01h", AS_IT_STANDS, 0, 0, "34 01 00 00 00 00 00 00 00 00", NULL,
+     20, NULL, AT_THE_BEGINNING, AT_THE_BEGINNING},
+};
+static const struct step met_by_prevent[] = {
+    {"the attention comes before PREVENT ALLOW", AS_IT_STANDS, 0, 0, "1E 00 00 00 00 00", NULL, 0, CHANGED, NULL,
+     NULL},
+    {"the attention is met once: PREVENT ALLOW", AS_IT_STANDS, 0, 0, "1E 00 00 00 00 00", NULL, 0, NULL, NULL,
      AT_THE_BEGINNING},
 };
 static const struct step told_by_sense[] = {
@@ -132,6 +151,13 @@ static const struct step stock_translations[] = {
     {"stock: LOCATE with BT past the end", AS_IT_STANDS, 0, 0, "2B 04 00 00000003 00 00 00", NULL, 0,
      SENSE("70", "08", NO_INFORMATION, "0005"), NULL, AT("00", "00000002")},
     {"stock: LOAD with RETEN", AS_IT_STANDS, 0, 0, "1B 00 00 00 03 00", NULL, 0, NULL, NULL, AT_THE_BEGINNING},
+    {"stock: READ POSITION, form 01h, with a control byte", AS_IT_STANDS, 0, 0, "34 01 00 00 00 00 00 00 00 01", NULL,
+     20, FIELD, "", NULL},
+    {"stock: LOCATE with BT and a reserved bit", AS_IT_STANDS, 0, 0, "2B 0C 00 00000002 00 00 00", NULL, 0, FIELD,
+     NULL, AT_THE_BEGINNING},
+    {"stock: MODE SENSE page 11h with a subpage", AS_IT_STANDS, 0, 0, "1A 08 11 01 FF 00", NULL, 255, FIELD, "", NULL},
+    {"stock: MODE SENSE page 11h of saved values", AS_IT_STANDS, 0, 0, "1A 08 D1 00 FF 00", NULL, 255, FIELD, "",
+     NULL},
     {"stock: WRITE FILEMARKS 2 with IMMED", EXAMPLE_E, MOUNTED, 1, "10 01 000002 00", NULL, 0, NULL, NULL,
      AT("00", "00000003")},
     {"stock: a filemark was put: SPACE filemarks -1", AS_IT_STANDS, 0, 0, "11 01 FFFFFF 00", NULL, 0, NULL, NULL,
@@ -144,7 +170,7 @@ static inline void expect_partition_page(struct wire *wire, const char *subject,
 {
     size_t start = 4 + descriptor_length;
     wire->subject = subject;
-    struct reply reply = ask_receiving(wire, command, 255);
+    struct reply reply = ask_receiving(wire, command, ALLOCATION);
     expect_good(wire, &reply);
     expect_at_least(wire, "its length", reply.received, start + 8);
     expect_number(wire, "the length by the mode data length", wire->room[0] + 1u, reply.received);
@@ -154,6 +180,18 @@ static inline void expect_partition_page(struct wire *wire, const char *subject,
     expect_number(wire, "the page code", wire->room[start] & 0x3f, 0x11);
     expect_number(wire, "the length by the page length", start + 2 + wire->room[start + 1], reply.received);
     expect_number(wire, "the number of additional partitions", wire->room[start + 3], 0);
+}
+
+static inline void expect_partition_pages(struct wire *wire)
+{
+    uint8_t whole[6];
+    expect_partition_page(wire, "stock: MODE SENSE page 11h", "1A 00 11 00 FF 00", 8);
+    expect_partition_page(wire, "stock: MODE SENSE page 11h with DBD", "1A 08 11 00 FF 00", 0);
+    memcpy(whole, wire->room, sizeof whole);
+    wire->subject = "stock: MODE SENSE page 11h with DBD, cut at 6";
+    struct reply reply = ask_receiving(wire, "1A 08 11 00 06 00", sizeof whole);
+    expect_good(wire, &reply);
+    expect_received(wire, &reply, sizeof whole, whole, sizeof whole);
 }
 
 /* Mounted again: the attention waits, everything is still there, and the block length is a mount's. */

@@ -275,16 +275,22 @@ static int is_tile(struct host *host, const struct object *object, size_t at)
     return memcmp(host->wire->room + at, wanted, object->length) == 0;
 }
 
+static int is_object(struct host *host, const struct object *object, const struct reply *reply, int has_sili)
+{
+    if (reply->received != object->length)
+        return 0;
+    if (object->tile == IS_FILEMARK)
+        return condition_of(sense_in(reply)) == FILEMARK_DETECTED;
+    return is_answer_of_tile(reply, object->length, has_sili) && is_tile(host, object, 0);
+}
+
 /* The host compares what comes with the tile of the number at which it believes to stand. */
 static void compare_next(struct host *host)
 {
     const struct object *object = &host->plan->run.objects[host->at++];
-    int has_sili = object->tile % 2;
+    int has_sili = object->tile % 2 == 1;
     struct reply reply = read_into_room(host, has_sili ? 2 : 0, LARGEST_TILE, LARGEST_TILE);
-    int is_same = object->tile == IS_FILEMARK
-                      ? condition_of(sense_in(&reply)) == FILEMARK_DETECTED && reply.received == 0
-                      : is_answer_of_tile(&reply, object->length, has_sili) && reply.received == object->length &&
-                            is_tile(host, object, 0);
+    int is_same = is_object(host, object, &reply, has_sili);
     host->compared += object->tile != IS_FILEMARK;
     host->differing += !is_same;
     if (!is_same)
@@ -364,27 +370,27 @@ static int is_told_right(const struct trip *trip, int64_t count, const struct re
 
 static void print_heading(void)
 {
-    printf("%-7s %-27s %-11s %-6s %-20s %5s  %-9s %7s %10s %8s %6s %9s\n", "", "why", "from", "object", "SPACE", "count",
+    printf("%-7s %-26s %-11s %6s %-14s %5s  %-9s %7s %10s %8s %5s %9s\n", "", "why", "from", "object", "SPACE", "count",
            "told", "residue", "worked out", "position", "tiles", "differing");
 }
 
-static void print_trip(const struct host *host, const struct trip *trip, int64_t count, const struct sense *told,
-                       uint32_t worked_out, uint32_t position)
+static const char *told_in_words(const struct reply *reply, const struct sense *told)
 {
-    const struct object *from = &host->plan->run.objects[trip->from];
-    char place[24] = "end of data", what[24];
+    if (reply->status == SCSI_STATUS_GOOD)
+        return "GOOD";
+    if (told->flags & STORMTOGGLE_FILEMARK)
+        return "FILEMARK";
+    return told->code == AT_BEGINNING ? "BEGINNING" : "other";
+}
+
+/* Cycle and tile, or the filemark of a cycle, before which a trip starts. */
+static void print_start(const struct host *host, const struct trip *trip)
+{
+    const struct object *object = &host->plan->run.objects[trip->from];
+    char place[24] = "end of data";
     if (trip->from < trip->end)
-        snprintf(place, sizeof place, "%d.%d", from->cycle, from->tile);
-    if (trip->from < trip->end && from->tile == IS_FILEMARK)
-        snprintf(place, sizeof place, "end of %d", from->cycle);
-    snprintf(what, sizeof what, "%s %s", trip->code == BLOCKS ? "blocks" : "filemarks", trip->is_long ? "(16)" : "");
-    printf("%-27s %-11s %6" PRIu32 " %-20s %5" PRId64 "  %-9s %7" PRId64 " %10" PRIu32 " %8" PRIu32, trip->why, place,
-           trip->from, what, count,
-           told->flags & STORMTOGGLE_FILEMARK    ? "FILEMARK"
-           : told->code == AT_BEGINNING          ? "BEGINNING"
-           : told->code == NO_ADDITIONAL_SENSE   ? "GOOD"
-                                                 : "other",
-           told->residue, worked_out, position);
+        snprintf(place, sizeof place, object->tile == IS_FILEMARK ? "end of %d" : "%d.%d", object->cycle, object->tile);
+    printf("%-26s %-11s %6" PRIu32 " ", trip->why, place, trip->from);
 }
 
 static void make_trip(struct host *host, const struct trip *trip)
@@ -407,8 +413,10 @@ static void make_trip(struct host *host, const struct trip *trip)
     host->trips_made++;
     host->trips_failed += !holds;
     printf("%-7s ", holds ? "ok:" : "FAILED:");
-    print_trip(host, trip, count, &told, worked_out, position);
-    printf(" %6" PRIu64 " %9" PRIu64 "\n", compared, differing);
+    print_start(host, trip);
+    printf("%-9s %-4s %5" PRId64 "  %-9s %7" PRId64 " ", trip->code == BLOCKS ? "blocks" : "filemarks",
+           trip->is_long ? "(16)" : "", count, told_in_words(&reply, &told), told.residue);
+    printf("%10" PRIu32 " %8" PRIu32 " %5" PRIu64 " %9" PRIu64 "\n", worked_out, position, compared, differing);
     fflush(stdout);
 }
 

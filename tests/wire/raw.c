@@ -11,7 +11,7 @@
 #include "identity.h"
 #include "loading.h"
 
-enum { CHECKS_IF_EXACT = 557, CHECKS_IF_STOCK = 637 };
+enum { CHECKS_IF_EXACT = 561, CHECKS_IF_STOCK = 703 };
 
 static void try_what_both_serve(struct wire *wire)
 {
@@ -39,11 +39,13 @@ static int try_stock(struct wire *wire)
     try_steps(wire, met_by_ready, COUNT(met_by_ready));
     try_what_both_serve(wire);
     try_steps(wire, stock_translations, COUNT(stock_translations));
-    expect_partition_page(wire, "stock: MODE SENSE page 11h with DBD", "1A 08 11 00 FF 00", 0);
-    expect_partition_page(wire, "stock: MODE SENSE page 11h", "1A 00 11 00 FF 00", 8);
+    expect_partition_pages(wire);
     unload(wire);
     load_again(wire, met_by_code, COUNT(met_by_code));
     unload_and_load_again(wire, met_by_field, COUNT(met_by_field));
+    unload_and_load_again(wire, met_by_page, COUNT(met_by_page));
+    unload_and_load_again(wire, met_by_position, COUNT(met_by_position));
+    unload_and_load_again(wire, met_by_prevent, COUNT(met_by_prevent));
     unload_and_load_again(wire, told_by_sense, COUNT(told_by_sense));
     unload_and_load_again(wire, told_in_descriptors, COUNT(told_in_descriptors));
     return end_of_checks(CHECKS_IF_STOCK);
