@@ -78,6 +78,14 @@ static const struct step told_in_descriptors[] = {
      AT_THE_BEGINNING},
 };
 
+/* What a mount of a blank cartridge leaves, before anything is selected or written. */
+static const struct step as_mounted[] = {
+    {"as mounted: MODE SENSE tells 32,768", AS_IT_STANDS, 0, 0, ASK_MODES, NULL, 12, NULL, MODES_ARE("008000"),
+     AT_THE_BEGINNING},
+    {"as mounted: READ 5 on the blank", AS_IT_STANDS, 0, 0, READ_FIVE, NULL, 5, SENSE("F0", "08", "00000005", "0005"),
+     "", AT_THE_BEGINNING},
+};
+
 /* ---- removal */
 
 static const struct step removing[] = {

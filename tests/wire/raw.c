@@ -11,10 +11,11 @@
 #include "identity.h"
 #include "loading.h"
 
-enum { CHECKS_IF_EXACT = 561, CHECKS_IF_STOCK = 703 };
+enum { CHECKS_IF_EXACT = 567, CHECKS_IF_STOCK = 709 };
 
 static void try_what_both_serve(struct wire *wire)
 {
+    try_steps(wire, as_mounted, COUNT(as_mounted));
     try_identity(wire);
     try_edges(wire);
     try_parameters(wire);
