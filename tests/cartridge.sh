@@ -310,6 +310,9 @@ ln -s nowhere "$room/dangling"
 gives 3 '' '^cartridge: dangling: exists already' blank 64 dangling
 gives 0 $'one: blank, 64 bytes\ntwo: blank, 64 bytes\n' '' blank 64 one two
 holds "two blanks" same one two
+# Taken only when the second is made.
+gives 3 $'twice: blank, 64 bytes\n' '^cartridge: twice: exists already' blank 64 twice twice
+holds "a blank named twice stays" same one twice
 gives 3 '' 'nowhere/new: cannot be made: No such file or directory' blank 64 nowhere/new
 for fault in 'full:cannot have that much space: No space left' 'fsync:cannot be brought to disk: Input/output error' \
     'msync:cannot be brought to disk: Input/output error' 'flock:cannot be locked: No locks available'; do

@@ -9,7 +9,7 @@ cd "$(dirname "$0")/../.." || exit 2
 slips=(
     'image.h|s/object.end == before ? NO_RULE/object.end >= before ? NO_RULE/|a filemark may move the end'
     'image.h|s/~(uint32_t)IMAGE_PROTECTED/~(uint32_t)3/|flag bit 1 is let through'
-    'image.h|s/(uint64_t)IMAGE_ENTRY \* image_field(image, IMAGE_N)/(uint32_t)IMAGE_ENTRY * image_field(image, IMAGE_N)/|4N wraps'
+    'image.h|s/(uint64_t)IMAGE_ENTRY \* image_field/(uint32_t)IMAGE_ENTRY * image_field/|4N wraps'
     'image.h|s/length > STORMTOGGLE_LONGEST_IMAGE/length >= STORMTOGGLE_LONGEST_IMAGE/|1 GiB is too long'
     'image.h|s/object.end > directory \&\&/object.end >= directory \&\&/|a full image is unsound'
     'image.h|s/ \&\& past.broken == NO_RULE)/)/|the last object past D is named, not the first'
@@ -22,7 +22,7 @@ slips=(
     'files.h|s/ || fsync(file->descriptor) != 0)/)/|no fsync of the file'
     'files.h|s/msync(.*MS_SYNC) != 0 || //|no msync'
     'files.h|s/O_NONBLOCK | //|a pipe is waited for'
-    'files.h|s/error = posix_fallocate(.*;/error = ftruncate(file->descriptor, (off_t)(at + step));/|no space is allocated'
+    'files.h|s/= posix_fallocate(.*;/= ftruncate(file->descriptor, (off_t)(at + step));/|no space is allocated'
     'files.h|s/sigaction(SIGBUS/sigaction(SIGUSR1/|a page that is gone kills the tool'
     'files.h|s/if (fcntl(i, F_GETFD) < 0/if (0/|a cartridge may become the output'
     'files.h|s/if (fflush(stdout) == 0 \&\& !failed)/if (1)/|a full output is not noticed'
@@ -33,7 +33,7 @@ slips=(
     'extract.h|s/STORMTOGGLE_VIEW_START(view)/0 * STORMTOGGLE_VIEW_START(view)/|the first bytes are extracted'
     'extract.h|s/\&\& !is_forced)/\&\& 0)/|extract overwrites without --force'
     'extract.h|s/if (is_same_file(/if (0 \&\& is_same_file(/|extract overwrites the cartridge'
-    'extract.h|s/enum ending ending = lock_file(output, TO_CHANGE);/enum ending ending = DONE;/|a cartridge in use is overwritten'
+    'extract.h|s/ending = lock_file(output, TO_CHANGE);/ending = DONE;/|a cartridge in use is overwritten'
     'extract.h|s/ftruncate(output->descriptor, 0) != 0/0/|bytes of the file before stay'
     'extract.h|s/number < objects)/number <= objects)/|one object too many is a filemark'
     'words.h|s/part \* unit % parts != 0/0/|parts of bytes are dropped'
@@ -51,6 +51,9 @@ slips=(
 room=$(mktemp -d) || exit 2
 trap 'rm -rf "$room"' EXIT
 cp -r --parents examples include tests tools target/staticlib/libstormtoggle.a target/bin/listing "$room" || exit 2
+# A slip may leave something unused.
+sed -i 's/ -Werror//' "$room/tests/host.sh"
+flags+=(-Wno-error)
 
 # What the test says of the tool in the room, without the lines that tell of each failure.
 run_test() {
@@ -63,21 +66,26 @@ run_test() {
 }
 
 failed=0
-if verdict=$(run_test); then echo "no slip: nothing fails (${verdict%;*})"; else failed=1; echo "no slip: FAILED: $verdict"; fi
+if verdict=$(run_test); then
+    echo "no slip: nothing fails (${verdict%;*})"
+else
+    failed=1
+    echo "no slip: FAILED: $verdict"
+fi
 for slip in "${slips[@]}"; do
     IFS='|' read -r file _ <<<"$slip"
     what=${slip##*|} edit=${slip#*|} edit=${edit%|*}
     sed -i "$edit" "$room/tools/$file"
     if cmp -s "tools/$file" "$room/tools/$file"; then
-        failed=1 found="FAILED: the edit changes nothing"
+        failed=1 outcome="FAILED: the edit changes nothing"
     elif verdict=$(run_test); then
-        failed=1 found="FAILED: not found"
+        failed=1 outcome="FAILED: not found"
     elif [[ ! $verdict =~ ^[0-9]+\ passed ]]; then
-        failed=1 found="FAILED: $verdict"
+        failed=1 outcome="FAILED: $verdict"
     else
-        found="found ($verdict)"
+        outcome="found ($verdict)"
     fi
     cp "tools/$file" "$room/tools/$file"
-    echo "$what: $found"
+    echo "$what: $outcome"
 done
 exit "$failed"
