@@ -27,7 +27,7 @@ installs() { # STATUS WORD...
 }
 
 installs_below() { # DESTDIR WORD...
-    DESTDIR=$1 installs 0 --prefix /opt/some/where "${@:2}"
+    DESTDIR=$1 installs 0 --prefix=/opt/some/where "${@:2}"
 }
 
 # ---- what is installed
@@ -111,6 +111,7 @@ holds "and no other directory than its own" [ "$(find "$room/moved" -mindepth 1 
 
 holds "wrong words are refused" installs 2 --prefx "$room/prefix"
 holds "a prefix must be named" installs 2 --prefix
+holds "and not be empty" installs 2 --prefix=
 : >"$room/file"
 holds "a prefix that cannot be made is an error" installs 1 --prefix "$room/file/below"
 

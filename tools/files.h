@@ -46,6 +46,7 @@ static inline enum ending system_refused(const char *name, const char *what, int
 static inline enum ending finish_output(enum ending ending)
 {
     int failed = ferror(stdout);
+    end_work();
     if (fflush(stdout) == 0 && !failed)
         return ending;
     return complain(SYSTEM_REFUSED, NULL, "not everything could be written to standard output: %s",
