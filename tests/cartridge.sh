@@ -42,10 +42,12 @@ holds() { # WHAT COMMAND...
 
 # What was said on standard error: nothing if the pattern is empty, else one line of the tool's own that has it.
 said_well() { # PATTERN
+    local lines
+    mapfile -t lines <"$room/said"
     if [ -z "$1" ]; then
-        [ ! -s "$room/said" ]
+        [ "${#lines[@]}" -eq 0 ]
     else
-        [ "$(wc -l <"$room/said")" -eq 1 ] && grep -q '^cartridge: ' "$room/said" && grep -Eq -- "$1" "$room/said"
+        [[ ${#lines[@]} -eq 1 && ${lines[0]} == 'cartridge: '* && ${lines[0]} =~ $1 ]]
     fi
 }
 
