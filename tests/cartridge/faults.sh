@@ -40,7 +40,7 @@ slips=(
     'words.h|s/<< 10 \* i/<< 9 * i/|K is 512'
     'words.h|s/only_words = 1;/only_words = 0;/|-- is no end of options'
     'progress.h|s/setitimer(ITIMER_REAL, .*;/(void)each_second;/|no progress is told'
-    'progress.h|s/{{1, 0}, {1, 0}}/{{0, 9}, {0, 9}}/|progress is told at once'
+    'progress.h|s/{{1, 0}, {1, 0}}/{{0, 2000}, {0, 2000}}/|progress is told at once'
     'cartridge.c|s/was == on ? DONE : make_durable(file)/make_durable(file)/|protect syncs what did not change'
     'cartridge.c|s/object.end - before);/object.end);/|ends are listed for lengths'
     'cartridge.c|s/ending = worse(ending, judge(\&files\[i\]));/ending = judge(\&files[0]);/|the second is not judged'
