@@ -18,8 +18,9 @@ free_port() {
 # Serves a cartridge as a user does, with ./serve, and tells its address in url.
 start_drive() { # NAME SERVE-WORD...
     local said=$accepted/$1.serve
-    rm -f "$accepted/$1.log"
-    ./serve --listen "127.0.0.1:$(free_port)" --log "$accepted/$1.log" "${@:2}" >"$said" 2>&1 &
+    rm -f "$accepted/$1.log" "$said"
+    # A shell has what it starts in the background ignore SIGINT; a user's shell does not.
+    env --default-signal=INT ./serve --listen "127.0.0.1:$(free_port)" --log "$accepted/$1.log" "${@:2}" >"$said" 2>&1 &
     drive=$!
     wait_for "$drive" grep -q '^ready: ' "$said"
     url=$(sed -n 's/^ready: //p' "$said")
@@ -29,11 +30,23 @@ start_drive() { # NAME SERVE-WORD...
     return 1
 }
 
+# Tells the drive to stop, and waits until it has; a minute at most.
+end_drive() { # SIGNAL
+    local tenths
+    kill "-$1" "$drive"
+    for ((tenths = 0; tenths < 600; tenths++)); do
+        kill -0 "$drive" 2>/dev/null || break
+        [ "$(ps -o stat= -p "$drive")" != Z ] || break
+        sleep 0.1
+    done
+    kill -KILL "$drive" 2>/dev/null
+    await "$drive"
+}
+
 # A drive stops cleanly, and has said nothing to its operator.
 stop_drive() { # NAME
     local status=0
-    kill -TERM "$drive"
-    await "$drive" || status=$?
+    end_drive TERM || status=$?
     [ "$status" -eq 0 ] || echo "FAILED: the drive ended with status $status"
     ! grep -n OPERATOR "$accepted/$1.serve" || status=1
     return "$status"
@@ -52,15 +65,22 @@ on_drive() { # NAME SERVE-WORD... -- COMMAND...
 
 # ---- stages
 
-# Runs a stage: of what it says, the checks that hold are counted, and all else is shown. Its whole output is kept.
+# Whether a stage is asked for: all are, if none is named.
+is_wanted() { # NAME
+    [ "${#wanted[@]}" -eq 0 ] || [[ " ${wanted[*]} " == *" $1 "* ]]
+}
+
+# Runs a stage: of what it says, the checks that hold are counted, and all else is shown, or with show=1 all of it. Its
+# whole output is kept.
 stage() { # NAME WHAT COMMAND...
     local file=$accepted/$1.stage status=0 began=$SECONDS checks
+    is_wanted "$1" || return 0
     echo "stage $((passed + failed + 1)), $2"
     "${@:3}" >"$file" 2>&1 || status=$?
     checks=$(grep -c '^ok: ' "$file")
     ! grep -q '^FAILED' "$file" || status=1
     [ "$checks" -gt 0 ] || status=1
-    grep -v '^ok: ' "$file" | sed 's/^/    /'
+    if [ -n "${show-}" ]; then cat "$file"; else grep -v '^ok: ' "$file"; fi | sed 's/^/    /'
     if [ "$status" -eq 0 ]; then
         passed=$((passed + 1))
         echo "    passed: $checks checks, $((SECONDS - began)) s"
