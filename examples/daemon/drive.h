@@ -197,14 +197,20 @@ static inline void load_unload(struct drive *d, struct exchange *x)
         answer_refusal(x, STORMTOGGLE_BY_DRIVE);
 }
 
+/* Of a unit that is not there: REQUEST SENSE is GOOD, and tells as data what other commands are told as sense. */
 static inline void answer_elsewhere(struct exchange *x)
 {
-    if (operation_of(x) == INQUIRY)
+    if (operation_of(x) == INQUIRY) {
         inquire(x, 0);
-    else if (operation_of(x) == REPORT_LUNS)
+        return;
+    }
+    if (operation_of(x) == REPORT_LUNS) {
         report_luns(x);
-    else
-        answer_check(x, UNIT_NOT_SUPPORTED, "logical unit not supported");
+        return;
+    }
+    answer_check(x, UNIT_NOT_SUPPORTED, "logical unit not supported");
+    if (operation_of(x) == REQUEST_SENSE)
+        answer_data(x, x->sense, sizeof x->sense, x->command[4]);
 }
 
 /* A block that is shorter than its operation code says is the library's to refuse. */
