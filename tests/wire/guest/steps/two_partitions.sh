@@ -1,5 +1,6 @@
 # two_partitions.sh: a cartridge of two partitions by the tape driver's partition commands: each holds its own data, the
 # driver comes back to where it was in the other, and numbers count in each from 0. Needs a blank cartridge of two.
+# mt's manual has the words of partseek the other way round: the program takes the partition, then the block.
 . /stage/must.sh
 
 partition() { mt status | sed -n 's/.*, partition=\(.*\)\.$/\1/p'; }
@@ -50,21 +51,22 @@ must 'the two blocks of its second file' equal "$(same 1000 3 2)"
 must 'the place behind them' 'partition 0, object 6' "$(there)"
 
 # ---- to a block of the other partition, and past its end
-must 'the status of mt partseek 3 1' 0 "$(status_of mt partseek 3 1)"
+must 'the status of mt partseek 1 3' 0 "$(status_of mt partseek 1 3)"
 must 'the place after it' 'partition 1, object 3' "$(there)"
 must 'blocks 3 and 4 of partition 1' equal "$(same 700 103 2)"
-must 'the status of mt partseek 8 0' 2 "$(status_of mt partseek 8 0)"
+must 'the status of mt partseek 0 8' 2 "$(status_of mt partseek 0 8)"
 must 'the place by the drive' 'partition 0, object 7' "$(drive_there)"
 
 # ---- erasing one leaves the other; the drive makes no partitions
-must 'the status of mt partseek 1 0' 0 "$(status_of mt partseek 1 0)"
+must 'the status of mt partseek 0 1' 0 "$(status_of mt partseek 0 1)"
 must 'the status of mt erase in partition 0' 0 "$(status_of mt erase)"
 must 'the status of mt eod in partition 0' 0 "$(status_of mt eod)"
 must 'the place after it' 'partition 0, object 1' "$(there)"
-must 'the status of mt partseek 0 1' 0 "$(status_of mt partseek 0 1)"
+must 'the status of mt partseek 1 0' 0 "$(status_of mt partseek 1 0)"
 must 'the five blocks of partition 1 after that' equal "$(same 700 100 5)"
+must 'the status of mt partseek 0 0' 0 "$(status_of mt partseek 0 0)"
 must 'the status of mt mkpartition 1' 2 "$(status_of mt mkpartition 1)"
-must 'the status of mt partseek 0 1 after it' 0 "$(status_of mt partseek 0 1)"
+must 'the status of mt partseek 1 0 after it' 0 "$(status_of mt partseek 1 0)"
 must 'the five blocks of partition 1 after it' equal "$(same 700 100 5)"
 
-all_made 47
+all_made 48
