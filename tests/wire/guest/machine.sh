@@ -12,5 +12,5 @@ esac
 boot() { # ACCELERATOR KERNEL INITRD WORDS-FOR-THE-KERNEL OPTION...
     timeout -k 5 "${GUEST_SECONDS:-180}" "${machine[@]}" -accel "$1" -m 512 -nodefaults -nic none -display none \
         -no-reboot -serial stdio -kernel "$2" -initrd "$3" -append "console=$console quiet loglevel=1 panic=-1 $4" \
-        "${@:5}" </dev/null 2>&1 | tr -d '\r'
+        "${@:5}" </dev/null 2>&1 | sed -u 's/\r//g'
 }

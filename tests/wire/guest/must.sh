@@ -72,3 +72,26 @@ sense_of() { # SG_RAW-WORD...
     sed -n 's/^SCSI Status: Good.*/GOOD/p;s/.*Sense key: //p;s/^ *Additional sense: //p' /tmp/said |
         sed 's/ *$//' | paste -s -d '/' -
 }
+
+# ---- Bacula's btape
+
+# Answers btape's questions in turn. /tmp/btape has what it says, without times of day; /tmp/status the status that it
+# ends with. The headings of its tests are shown as they come.
+answer_btape() { # CONFIGURATION ANSWER...
+    configuration=$1
+    shift
+    { printf '%s\n' "$@" | timeout 150 btape -c "$configuration" "$tape" 2>&1; echo $? >/tmp/status; } |
+        sed 's/^[0-9]*-[A-Z][a-z][a-z] [0-9:]* //' | tee /tmp/btape | grep '^=== [A-Z]'
+}
+
+# How often btape must say a line.
+says() { # TIMES LINE
+    must "the number of lines '$2'" "$1" "$(grep -c -x -F -e "$2" /tmp/btape)"
+}
+
+# The words are those of btape's complaints. All of what it said is shown if anything went wrong.
+says_no_failure() {
+    must 'the number of complaints' 0 \
+        "$(grep -c -e '[Ff]ail' -e 'NOT' -e 'ERR=' -e 'Error' -e 'error ' -e 'Unable' -e 'Bad' -e Wrong /tmp/btape)"
+    [ "$failed" -eq 0 ] || sed 's/^/| /' /tmp/btape
+}

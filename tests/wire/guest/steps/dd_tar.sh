@@ -1,6 +1,7 @@
 # dd_tar.sh: dd in fixed and in variable blocks of several lengths up to the drive's largest, blocks read with another
 # length than they have, filemarks and the end of data met by dd; and GNU tar: four archives one after the other, the
 # middle one read after going back over two filemarks, one extended in place. Needs a blank cartridge of 32 MiB.
+# shellcheck shell=sh disable=SC1091,SC2154
 . /stage/must.sh
 
 records() { sed -n 's/^\([0-9+]*\) records in$/\1/p' /tmp/dd; }

@@ -4,6 +4,7 @@
 # After early warning the tape driver refuses every second write with ENOSPC and tries the others; a block that does not
 # fit is one refusal more. Needs a cartridge of one partition. With end of data in the zone a READ there says EOM (02,
 # Q-2), which the driver gives to a program as the end, where it would otherwise give EIO.
+# shellcheck shell=sh disable=SC1091,SC2154
 . /stage/must.sh
 
 checks=0

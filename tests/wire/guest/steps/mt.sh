@@ -1,10 +1,12 @@
-# mt.sh: every motion of mt on a tape of three files: where the tape stands after each, in the driver's reckoning and in
-# the drive's own, and with which status mt ends at a filemark, at the beginning and at the end of data. Then block
-# lengths, the door, load and unload, erase, and what the drive does not serve. Needs a blank cartridge of one partition.
+# mt.sh: every motion of mt on a tape of three files: where the tape stands after each, in the driver's reckoning and
+# in the drive's own, and with which status mt ends at a filemark, at the beginning and at the end of data. Then block
+# lengths, the door, load and unload, erase, and what the drive does not serve. Needs a blank cartridge of one
+# partition.
 #
 # The objects: blocks 0 1 2, filemark 3, blocks 4 5, filemark 6, blocks 7 8 9 10, filemark 11; end of data is 12.
-# mt's status: 0 done, 1 the device could not be opened, 2 the operation failed. What the driver reckons is its own: after
-# a motion backwards over a filemark, and to any block but 0, it says -1 for what it cannot know.
+# mt's status: 0 done, 1 the device could not be opened, 2 the operation failed. What the driver reckons is its own:
+# after a motion backwards over a filemark, and to any block but 0, it says -1 for what it cannot know.
+# shellcheck shell=sh disable=SC1091,SC2154
 . /stage/must.sh
 
 # ---- after a mount (02, Q-3)

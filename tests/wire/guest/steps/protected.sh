@@ -1,6 +1,7 @@
-# protected.sh: a protected cartridge. In the first run, with the argument `before`, four numbered blocks are written to a
-# cartridge of one partition, not yet protected; in the second, with `after`, it is: writing, erasing and filemarks are
-# refused, by the tape driver to a program and by the drive to a raw command block, and the blocks stand.
+# protected.sh: a protected cartridge. In the first run, with the argument `before`, four numbered blocks are written to
+# a cartridge of one partition, not yet protected; in the second, with `after`, it is: writing, erasing and filemarks
+# are refused, by the tape driver to a program and by the drive to a raw command block, and the blocks stand.
+# shellcheck shell=sh disable=SC1091,SC2154
 . /stage/must.sh
 
 # EROFS: a protected tape cannot be opened for writing. The drive's own answer is 7/27/00, at any count.
@@ -36,7 +37,7 @@ after() {
     must 'the four blocks' equal "$(same 5000 0 4)"
     must 'the place behind them' 'file 0 block 4 of 0, object 4' "$(place)"
     step 0 'file 1 block -1 of 0, object 5' eod
-    all_made 25
+    all_made 24
 }
 
 "$1"

@@ -1,6 +1,7 @@
 # two_partitions.sh: a cartridge of two partitions by the tape driver's partition commands: each holds its own data, the
 # driver comes back to where it was in the other, and numbers count in each from 0. Needs a blank cartridge of two.
 # mt's manual has the words of partseek the other way round: the program takes the partition, then the block.
+# shellcheck shell=sh disable=SC1091,SC2154
 . /stage/must.sh
 
 partition() { mt status | sed -n 's/.*, partition=\(.*\)\.$/\1/p'; }
