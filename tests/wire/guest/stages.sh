@@ -67,7 +67,7 @@ guest_fill() { # URL FOLDER
         read -r -a four < <(fill_words $((16 << 20)) "$length")
         words+=("${four[@]}")
     done
-    guest_step 120 "$2" "$1" fill "${words[@]}"
+    guest_step 120 "$2" "$1" fill 3 "${words[@]}"
 }
 
 # 1 MiB, one partition; then the drive is stopped, the cartridge protected, and served again for the next one.
