@@ -57,13 +57,13 @@ step() { # STATUS PLACE MT-WORD...
 
 # Writes blocks first ... first + count - 1 of the numbered data, and st's filemark behind them.
 put() { # LENGTH FIRST COUNT
-    blocks print "$1" "$2" "$3" | dd of="$tape" bs="$1" iflag=fullblock
+    numbered print "$1" "$2" "$3" | dd of="$tape" bs="$1" iflag=fullblock
 }
 
 # Whether so many blocks, or fewer up to a filemark, are just these.
 same() { # LENGTH FIRST COUNT
     dd if="$tape" of=/tmp/read bs="$1" count="$3" || { echo "not readable: $(cat /tmp/dd)"; return; }
-    blocks print "$1" "$2" "$3" | cmp -s - /tmp/read && echo equal || echo different
+    numbered print "$1" "$2" "$3" | cmp -s - /tmp/read && echo equal || echo different
 }
 
 # How a command block that is sent past the tape driver ends: GOOD, or its sense in sg_raw's words.

@@ -5,13 +5,16 @@
 
 guest=$(cd "$(dirname "${BASH_SOURCE[0]}")" && pwd)
 
-# What make and run need besides bash, coreutils and sed.
-guest_packages() {
-    echo busybox-static mt-st tar sg3-utils bacula-sd cpio kmod gcc libc6-dev qemu-block-extra tgt
+# What make and run need, and is not installed.
+missing_for_guest() {
+    local package packages=(busybox-static mt-st tar sg3-utils bacula-sd cpio kmod gcc libc6-dev qemu-block-extra)
     case $(uname -m) in
-    x86_64) echo linux-image-cloud-amd64 qemu-system-x86 ;;
-    *) echo linux-image-cloud-arm64 qemu-system-arm ;;
+    x86_64) packages+=(linux-image-cloud-amd64 qemu-system-x86) ;;
+    *) packages+=(linux-image-cloud-arm64 qemu-system-arm) ;;
     esac
+    for package in "${packages[@]}"; do
+        [[ $(dpkg-query -W -f '${db:Status-Abbrev}' "$package" 2>/dev/null) == ii* ]] || echo "$package"
+    done
 }
 
 guest_make() { # FOLDER
@@ -46,57 +49,57 @@ fill_words() { # PARTITION-LENGTH BLOCK-LENGTH
 # ---- the stages
 
 # 1 MiB, one partition.
-guest_mt() { # URL FOLDER
-    guest_step 120 "$2" "$1" mt
+guest_mt() { # FOLDER URL
+    guest_step 120 "$1" "$2" mt
 }
 
 # 1 MiB, two partitions.
-guest_two_partitions() { # URL FOLDER
-    guest_step 60 "$2" "$1" two_partitions
+guest_two_partitions() { # FOLDER URL
+    guest_step 60 "$1" "$2" two_partitions
 }
 
 # 32 MiB, one partition.
-guest_dd_tar() { # URL FOLDER
-    guest_step 120 "$2" "$1" dd_tar
+guest_dd_tar() { # FOLDER URL
+    guest_step 120 "$1" "$2" dd_tar
 }
 
 # 16 MiB, one partition. Blocks of 4,096 bytes fill it to the last byte, so that no filemark fits behind them.
-guest_fill() { # URL FOLDER
+guest_fill() { # FOLDER URL
     local length four words=()
     for length in 32768 4096 1048576; do
         read -r -a four < <(fill_words $((16 << 20)) "$length")
         words+=("${four[@]}")
     done
-    guest_step 120 "$2" "$1" fill 3 "${words[@]}"
+    guest_step 120 "$1" "$2" fill 3 "${words[@]}"
 }
 
 # 1 MiB, one partition; then the drive is stopped, the cartridge protected, and served again for the next one.
-guest_protected_before() { # URL FOLDER
-    guest_step 60 "$2" "$1" protected before
+guest_protected_before() { # FOLDER URL
+    guest_step 60 "$1" "$2" protected before
 }
 
 # That cartridge, protected.
-guest_protected() { # URL FOLDER
-    guest_step 60 "$2" "$1" protected after
+guest_protected_after() { # FOLDER URL
+    guest_step 60 "$1" "$2" protected after
 }
 
 # 256 MiB, one partition.
-guest_btape_test() { # URL FOLDER
-    guest_step 180 "$2" "$1" btape_test
+guest_btape_test() { # FOLDER URL
+    guest_step 180 "$1" "$2" btape_test
 }
 
 # 400 MiB, one partition. In front of the blocks stand the label, a block as well, and a filemark.
-guest_btape_fill() { # URL FOLDER
-    guest_step 180 "$2" "$1" btape_fill "$(blocks_to_warning $((400 << 20)) 64512 $((64512 + 4 + 4)))"
+guest_btape_fill() { # FOLDER URL
+    guest_step 180 "$1" "$2" btape_fill "$(blocks_to_warning $((400 << 20)) 64512 $((64512 + 4 + 4)))"
 }
 
 # No drive of ours: the same step on another's, whose appending is wrong, must fail in btape's own words. So the step
 # can fail, and for what a drive does: the guest came up, saw the tape (else the status is not 1), and read back what
 # it wrote.
-guest_peer() { # PORT FOLDER
+guest_peer() { # FOLDER PORT
     local said status=0 failed=0 reread="ok: the number of lines '10000 blocks re-read correctly.' is 2"
     echo "btape test is run on the tape that Debian's tgt has, and must fail ..."
-    said=$(GUEST_SECONDS=180 "$guest/peer" "$1" "$2" "$guest/steps/btape_test.sh" 2>&1) || status=$?
+    said=$(GUEST_SECONDS=180 "$guest/peer" "$2" "$1" "$guest/steps/btape_test.sh" 2>&1) || status=$?
     peer_must 'the step fails on it' test "$status" -eq 1
     peer_must 'and yet blocks are re-read' grep -q -x -F "$reread"
     peer_must 'btape says that appending failed' grep -q -x -F '| Append test failed.'

@@ -26,7 +26,7 @@ step 0 'file 0 block 0 of 0, object 0' rewind
 must 'the status of dd, four blocks at a time' 0 "$(status_of read_all 131072)"
 must 'its records: two whole, and two blocks up to the filemark' 2+1 "$(records)"
 must 'the place after it' 'file 1 block 0 of 0, object 11' "$(place)"
-must 'the bytes of it' "$(blocks print 32768 0 10 | md5sum)" "$(md5sum </tmp/read)"
+must 'the bytes of it' "$(numbered print 32768 0 10 | md5sum)" "$(md5sum </tmp/read)"
 
 # ---- fixed blocks of 512, a hundred in one command
 step 0 'file 0 block 0 of 0, object 0' rewind
@@ -36,7 +36,7 @@ must 'the place after it' 'file 1 block 0 of 0, object 101' "$(place)"
 step 0 'file 0 block 0 of 0, object 0' rewind
 must 'the status of dd, thirty at a time' 0 "$(status_of read_all 15360)"
 must 'its records' 3+1 "$(records)"
-must 'the bytes of it' "$(blocks print 51200 0 1 | md5sum)" "$(md5sum </tmp/read)"
+must 'the bytes of it' "$(numbered print 51200 0 1 | md5sum)" "$(md5sum </tmp/read)"
 step 0 'file 0 block 0 of 0, object 0' rewind
 step 0 'file 0 block 0 of 0, object 0' setblk 1024
 must 'the status of dd in fixed blocks of 1,024' 1 "$(status_of read_one 1024)"
@@ -70,7 +70,7 @@ must 'the place behind them' 'file 3 block 6 of 0, object 55' "$(place)"
 step 0 'file 2 block 0 of 0, object 43' asf 2
 must 'the status of dd with 65,536 for a block of 32,768' 0 "$(status_of read_one 65536)"
 must 'its records' 0+1 "$(records)"
-must 'the bytes of it' "$(blocks print 32768 60 1 | md5sum)" "$(md5sum </tmp/read)"
+must 'the bytes of it' "$(numbered print 32768 60 1 | md5sum)" "$(md5sum </tmp/read)"
 must 'the place after it' 'file 2 block 1 of 0, object 44' "$(place)"
 must 'the status of dd with 32,767 for a block of 32,768' 1 "$(status_of read_one 32767)"
 must 'what it says' 'Cannot allocate memory' "$(reason)"
@@ -90,8 +90,8 @@ must 'the object after it' 56 "$(object)"
 # ---- GNU tar: three archives of different trees, records of 10,240 bytes
 tree() { # NUMBER
     mkdir -p "/tmp/tree$1/deep/er"
-    blocks print $((1000 + $1 * 7919)) "$1" 3 >"/tmp/tree$1/small"
-    blocks print 100000 $((200 + $1)) 5 >"/tmp/tree$1/deep/large"
+    numbered print $((1000 + $1 * 7919)) "$1" 3 >"/tmp/tree$1/small"
+    numbered print 100000 $((200 + $1)) 5 >"/tmp/tree$1/deep/large"
     : >"/tmp/tree$1/deep/empty"
     ln -s ../../small "/tmp/tree$1/deep/er/link"
     chmod 640 "/tmp/tree$1/small"
@@ -143,7 +143,7 @@ for number in 1 2 3 4; do
 done
 
 # ---- tar --append goes back over the archive's last record and writes on
-blocks print 5000 900 1 >/tmp/tree4/added
+numbered print 5000 900 1 >/tmp/tree4/added
 step 0 "file 3 block 0 of 0, object $end" asf 3
 must 'the status of tar --append' 0 "$(status_of tar -rf "$tape" -C /tmp/tree4 ./added)"
 step 0 "file 3 block 0 of 0, object $end" asf 3

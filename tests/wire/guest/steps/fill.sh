@@ -17,12 +17,12 @@ while [ $# -ge 4 ]; do
     must 'the status of mt rewind' 0 "$(status_of mt rewind)"
     must "writing blocks of $length bytes" \
         "warned $warned written $fitting refused $((fitting - warned + 2)) other none close $at_close" \
-        "$(timeout 300 blocks fill "$tape" "$length")"
+        "$(timeout 300 numbered fill "$tape" "$length")"
     at_end=$fitting
     [ "$at_close" != none ] || at_end=$((fitting + 1))
     must 'the object after it' "$at_end" "$(object)"
     must 'the status of mt rewind' 0 "$(status_of mt rewind)"
-    must 'reading them' "equal $fitting then end" "$(timeout 300 blocks compare "$tape" "$length")"
+    must 'reading them' "equal $fitting then end" "$(timeout 300 numbered compare "$tape" "$length")"
     must 'the status of mt eod' 0 "$(status_of mt eod)"
     must 'the object at the end of data' "$at_end" "$(object)"
 done

@@ -1,10 +1,9 @@
-/* blocks.c: a tape client for the guest: numbered blocks, whose every byte follows from the block's number.
+/* numbered.c: a tape client for the guest: numbered blocks, whose every byte follows from the block's number.
  *
- *   blocks print LENGTH FIRST COUNT    writes blocks FIRST to FIRST + COUNT - 1 to standard output
- *   blocks fill DEVICE LENGTH          writes blocks 0, 1, ... to a tape until it takes no more, and tells how it went
- *   blocks compare DEVICE LENGTH       reads a tape up to a filemark or the end, and tells how many blocks are as they
+ *   numbered print LENGTH FIRST COUNT  writes blocks FIRST to FIRST + COUNT - 1 to standard output
+ *   numbered fill DEVICE LENGTH        writes blocks 0, 1, ... to a tape until it takes no more, and tells how it went
+ *   numbered compare DEVICE LENGTH     reads a tape up to a filemark or the end, and tells how many blocks are as they
  *                                      were written
- *
  * The tape driver tells early warning in this way: the write that meets it is whole; the next one is refused with
  * ENOSPC; the one after that is tried, and so on by turns. So two refusals one after the other mean that a block was
  * tried and did not fit. */
@@ -32,7 +31,7 @@ static void make_block(uint8_t *block, size_t length, uint32_t number)
 
 static void fail(const char *what)
 {
-    fprintf(stderr, "blocks: %s: %s\n", what, strerror(errno));
+    fprintf(stderr, "numbered: %s: %s\n", what, strerror(errno));
     exit(1);
 }
 
@@ -154,6 +153,6 @@ int main(int count, char **words)
         return fill(words[2], number(words[3]));
     if (count == 4 && strcmp(words[1], "compare") == 0)
         return compare(words[2], number(words[3]));
-    fprintf(stderr, "usage: blocks print LENGTH FIRST COUNT | fill DEVICE LENGTH | compare DEVICE LENGTH\n");
+    fprintf(stderr, "usage: numbered print LENGTH FIRST COUNT | fill DEVICE LENGTH | compare DEVICE LENGTH\n");
     return 2;
 }
