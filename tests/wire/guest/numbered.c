@@ -4,6 +4,7 @@
  *   numbered fill DEVICE LENGTH        writes blocks 0, 1, ... to a tape until it takes no more, and tells how it went
  *   numbered compare DEVICE LENGTH     reads a tape up to a filemark or the end, and tells how many blocks are as they
  *                                      were written
+ *
  * The tape driver tells early warning in this way: the write that meets it is whole; the next one is refused with
  * ENOSPC; the one after that is tried, and so on by turns. So two refusals one after the other mean that a block was
  * tried and did not fit. */

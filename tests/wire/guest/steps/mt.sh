@@ -70,6 +70,18 @@ must 'block 8' equal "$(same 300 6 1)"
 step 2 'file -1 block -1 of 0, object 12' seek 13
 step 0 'file 0 block 0 of 0, object 0' seek 0
 
+# ---- without waiting (IMMED), which changes nothing; and in one command to the end of data: the driver has no number
+must 'the status of mt stsetoptions no-wait' 0 "$(status_of mt stsetoptions no-wait)"
+step 0 'file 1 block 0 of 0, object 4' fsf 1
+step 0 'file 0 block 0 of 0, object 0' rewind
+step 0 'file -1 block -1 of 0, object 5' seek 5
+step 0 'file 0 block 0 of 0, object 0' retension
+must 'the status of mt stclearoptions no-wait' 0 "$(status_of mt stclearoptions no-wait)"
+must 'the status of mt stsetoptions fast-eod' 0 "$(status_of mt stsetoptions fast-eod)"
+step 0 'file -1 block -1 of 0, object 12' eod
+must 'the status of mt stclearoptions fast-eod' 0 "$(status_of mt stclearoptions fast-eod)"
+step 0 'file 0 block 0 of 0, object 0' rewind
+
 # ---- filemarks, and the data in front of them
 step 0 'file 3 block -1 of 0, object 12' eod
 step 0 'file 5 block 0 of 0, object 14' weof 2
@@ -135,4 +147,11 @@ step 0 'file 0 block 0 of 0, object 0' rewind
 must 'the status of a short mt erase' 0 "$(status_of mt erase 0)"
 step 0 'file 0 block -1 of 0, object 0' eod
 
-all_made 164
+# ---- two filemarks behind a file, and back over one
+must 'the status of mt stsetoptions two-fms' 0 "$(status_of mt stsetoptions two-fms)"
+step 0 'file 0 block 0 of 0, object 0' rewind
+must 'the status of dd' 0 "$(status_of put 100 0 2)"
+must 'the place after it' 'file 1 block 0 of 0, object 3' "$(place)"
+step 0 'file 2 block -1 of 0, object 4' eod
+
+all_made 187
