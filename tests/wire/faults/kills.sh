@@ -1,0 +1,101 @@
+#!/usr/bin/env bash
+# kills.sh: kills the daemon at random moments while a host writes, KILLS times (every tenth time the transport too), and
+# starts it again on the same files. Each time: the files hold what they must (kills_judge), and the drive mounts and
+# tells the same over the wire (kills_write, before it writes on). Run from the repository's root.
+set -u
+kills=${1:-200} seed=${2:-20261117} within=${KILL_WITHIN:-60000}
+. tests/host.sh
+. examples/daemon/transport.sh
+. tests/wire/faults/build.sh
+
+daemon='' tgtd='' run_folder='' scratch=''
+end() { # STATUS
+    [ -z "$tgtd" ] || stop_tgt
+    [ -z "$daemon" ] || { kill -KILL "$daemon" && await "$daemon"; } 2>/dev/null
+    [ -z "$run_folder" ] || rm -rf "$run_folder"
+    [ -z "$scratch" ] || rm -rf "$scratch"
+    exit "$1"
+}
+trap 'end 1' INT TERM
+
+fail() { # WHY
+    echo "FAILED: kill $kill of $kills: $1"
+    tail -n 5 "$scratch/daemon.log" "$scratch/said" 2>/dev/null
+    end 1
+}
+
+# A socket that a killed daemon left would look like one that is listened on.
+start_drive() {
+    rm -f "$run_folder/drive"
+    start_daemon --user nobody --log "$scratch/daemon.log" "$scratch/first" "$scratch/second" >>"$scratch/said" 2>&1
+    kill -0 "$daemon" 2>/dev/null && return
+    await "$daemon"
+    case $? in
+    3) torn=$((torn + 1)) && fail "the cartridge is told to be torn" ;;
+    *) fail "the daemon does not start" ;;
+    esac
+}
+
+start_transport() {
+    start_tgt "127.0.0.1:$port" 127.0.0.1 || fail "the transport does not start"
+}
+
+# The second partition is smaller: made by a daemon of its own, which is stopped at once.
+make_cartridge() {
+    start_daemon --user nobody --log "$scratch/daemon.log" --blank 64M "$scratch/first" >>"$scratch/said" 2>&1
+    stop_daemon || fail "no cartridge can be made"
+    start_daemon --user nobody --log "$scratch/daemon.log" --blank 16M "$scratch/second" >>"$scratch/said" 2>&1
+    stop_daemon || fail "no cartridge can be made"
+    printf '1\n0\n0\n' >"$scratch/state"
+}
+
+kill_once() {
+    local victims=("$daemon")
+    [ $((kill % 10)) -gt 0 ] || victims+=("$tgtd")
+    timeout 60 "$wire/kills_write" "iscsi://127.0.0.1:$port/$target_name/0" "$scratch/state" "$scratch/journal" "$seed" \
+        "$kill" "$within" "${victims[@]}" >"$scratch/writer" 2>&1 || fail "$(cat "$scratch/writer")"
+    await "$daemon"
+    [ $? -eq 137 ] || fail "the daemon ended by itself"
+    cat "$scratch/journal" >>"$scratch/journals"
+    "${runner[@]}" "$wire/kills_judge" "$scratch/state" "$scratch/journal" "$seed" "$scratch/first" "$scratch/second" \
+        >"$scratch/judged" || fail "$(cat "$scratch/judged")"
+    cat "$scratch/judged" >>"$scratch/tally"
+    [ ${#victims[@]} -eq 1 ] || { await "$tgtd" || true; start_transport; }
+    start_drive
+    mounted=$((mounted + 1))
+}
+
+say_tally() {
+    local commands
+    commands=$(grep -c ' [anx]' "$scratch/journals")
+    awk -v commands="$commands" -v kills="$kills" -v mounted="$mounted" -v torn="$torn" -v seconds="$SECONDS" '
+        { fell[$1]++; held[$2 ", " $3]++; objects += $4; bytes += $5 }
+        END {
+            printf "    %d kills in %d s: %d mounted, %d torn; %d objects and %.1f GB compared in the files, after %d commands\n",
+                kills, seconds, mounted, torn, objects, bytes / 1e9, commands
+            printf "    the kills fell into:"
+            for (kind in fell) printf " %s %d;", kind, fell[kind]
+            printf "\n    the two files then held:"
+            for (pair in held) printf " %s %d;", pair, held[pair]
+            printf "\n"
+        }' "$scratch/tally"
+}
+
+build_drive >&2 && build_wire kills_write && build_over_library kills_judge || exit 1
+scratch=$(mktemp -d) && chmod 711 "$scratch" && make_run_folder nobody || exit 1
+kill=0 mounted=0 torn=0 port=$(free_port)
+echo "kills: $kills, seed $seed, within $within microseconds each"
+make_cartridge
+start_transport
+start_drive
+while [ "$kill" -lt "$kills" ]; do
+    kill=$((kill + 1))
+    kill_once 2>>"$scratch/said" # where bash tells of every process that was killed
+    [ $((kill % 20)) -gt 0 ] || echo "    .. $kill kills, all mounted and as they must be (elapsed $(elapsed))"
+done
+say_tally
+in_writing=$(grep -c '^WRITE\|^ERASE\|^UNLOAD' "$scratch/tally")
+[ $((in_writing * 3)) -ge "$kills" ] || fail "only $in_writing kills fell into a command that writes"
+echo "ok: $kills kills, $in_writing of them in the middle of a command that writes or makes final: all mounted, and held" \
+    "what was final, exactly"
+end 0
