@@ -50,6 +50,27 @@ static inline double seconds_now(void)
     return (double)now.tv_sec + (double)now.tv_nsec / 1e9;
 }
 
+/* The sum of a file's bytes: a cartridge that nothing is written to keeps it. 0 if it cannot be read. */
+static inline uint64_t sum_of_file(const char *name)
+{
+    static uint8_t piece[LARGEST_BLOCK];
+    FILE *file = fopen(name, "rb");
+    uint64_t sum = 1;
+    size_t length;
+    if (file == NULL)
+        return 0;
+    while ((length = fread(piece, 1, sizeof piece, file)) > 0)
+        sum = mixed(sum ^ sum_of(piece, length));
+    int is_read = ferror(file) == 0;
+    fclose(file);
+    return is_read ? sum : 0;
+}
+
+static inline void expect_same_file(const char *name, uint64_t before)
+{
+    verdict(before != 0 && sum_of_file(name) == before, "not a byte of the cartridge's file has changed");
+}
+
 /* ---- commands */
 
 static inline struct reply ask_alone(const struct initiator *to, const uint8_t *command, size_t length)
