@@ -1,6 +1,6 @@
-# stages_faults.sh: sourced for the stages of load and faults, a function each: load_stage, kills_stage, garbage_stage and
-# vanish_stage. Each starts a drive of its own with an empty cartridge, prints a line for each check ('ok: ' or 'FAILED: ')
-# and its numbers, and returns 0 exactly if all passed. Needs tests/host.sh; run from the repository's root.
+# stages_faults.sh: sourced for the stages of load and faults, a function each: load_stage, kills_stage, garbage_stage
+# and vanish_stage. Each starts a drive of its own with an empty cartridge, prints a line for each check ('ok: ' or
+# 'FAILED: ') and its numbers, and returns 0 exactly if all passed. Needs tests/host.sh; run from the repository's root.
 # shellcheck shell=bash disable=SC2154
 . tests/wire/faults/build.sh
 faults_seed=20261117
@@ -65,10 +65,16 @@ judge_stop() {
 
 # ---- the stages
 
+# Over the wire, and then past the transport, which hands on one command at a time: the daemon's own lock is tried too.
 load_stage() {
     local status=0
-    build_wire load && open_drive 1G || return 1
+    build_load_local && open_drive 1G || return 1
+    echo "eight hosts over iSCSI:"
     timeout 300 "$wire/load" "iscsi://127.0.0.1:$port/$drive_name/0" 500 "$faults_seed" || status=1
+    judge_stop || status=1
+    open_drive 1G || return 1
+    echo "eight hosts on the daemon's own socket:"
+    timeout 300 "$wire/load_local" "$(socket_of "$daemon")" 500 "$faults_seed" || status=1
     judge_stop || status=1
     return "$status"
 }

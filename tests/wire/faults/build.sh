@@ -16,6 +16,11 @@ build_wire() { # NAME...
     done
 }
 
+# The hosts of the load, past the transport.
+build_load_local() {
+    build_wire load && cc "${wire_flags[@]}" -DPAST_THE_TRANSPORT -o "$wire/load_local" tests/wire/faults/load.c
+}
+
 # A program over the library, which is x86-64.
 build_over_library() { # NAME
     mkdir -p "$wire" && "$compiler" "${wire_flags[@]}" -o "$wire/$1" "tests/wire/faults/$1.c" \

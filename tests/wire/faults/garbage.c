@@ -4,49 +4,36 @@
  *
  * of a drive with an empty cartridge, whose file this is. Four kinds by turns: bytes at random; after a right login,
  * units with operation codes, lengths and claims at random; data for a command outside of what the command said; and
- * half a unit, then silence. A command block that goes to the tape's own unit number has no operation code that moves or
- * writes, and data goes to another unit: so tape and position must stay exactly as they are, and a right host that comes
- * now and then compares both, all objects byte by byte. The transport may fall (it is not the drive), and is then waited
- * for. Exit status: 0 if all holds, 1 if not. */
+ * half a unit, then silence. A command block that goes to the tape's own unit number has no operation code that moves
+ * or writes, and data goes to another unit: so tape and position must stay exactly as they are, and a right host that
+ * comes now and then compares both, all objects byte by byte. The transport may fall (it is not the drive), and is then
+ * waited for. Exit status: 0 if all holds, 1 if not. */
 #define _DEFAULT_SOURCE
-#include "host.h"
 #include "plain.h"
+#include "tape.h"
 #include <draw.h>
 #include <sys/wait.h>
 
 enum { OBJECTS = 4, PLACE = 2, MOST_GARBAGE = 65536, SILENT = 8, ROUNDS_A_CHECK = 10, TENTHS_TO_WAIT = 150 };
 static const uint32_t lengths[OBJECTS] = {70000, 1, 0, LARGEST_BLOCK};
+static struct known_tape tape = {.count = OBJECTS, .lengths = lengths};
 
 static const char *host_name, *port, *target;
 static char url[300];
-static uint8_t block[LARGEST_BLOCK], room[LARGEST_BLOCK], garbage[MOST_GARBAGE];
+static uint8_t garbage[MOST_GARBAGE];
 static int silent[SILENT], waits;
 
 /* ---- the right host, in a process of its own: it may find no transport, and then comes again */
 
 enum { SAME = 0, OTHER = 3 };
 
-static int is_object(const struct initiator *i, uint32_t object)
-{
-    struct reply r = read_block(i, room);
-    if (lengths[object] == 0)
-        return condition(&r) == FILEMARK_DETECTED;
-    fill_block(block, lengths[object], seed, object);
-    return condition(&r) == GOOD && r.received == lengths[object] && memcmp(room, block, r.received) == 0;
-}
-
 static int is_as_before(const struct initiator *i)
 {
     struct place p = place_of(i);
     if (p.condition == NOT_ANSWERED)
         exit(EXIT_FAILURE);
-    struct reply r = locate(i, 0, 0);
-    int is_same = p.condition == GOOD && p.partition == 0 && p.object == PLACE && condition(&r) == GOOD;
-    for (uint32_t o = 0; o < OBJECTS && is_same; o++)
-        is_same = is_object(i, o);
-    r = read_block(i, room);
-    is_same = is_same && condition(&r) == END_OF_DATA;
-    r = locate(i, 0, PLACE);
+    int is_same = p.condition == GOOD && p.partition == 0 && p.object == PLACE && is_tape(i, &tape);
+    struct reply r = locate(i, 0, PLACE);
     return is_same && condition(&r) == GOOD;
 }
 
@@ -89,17 +76,10 @@ static int check_tape(int round)
 static void make_tape(void)
 {
     struct initiator i = connect_to("iqn.2026-11.example.stormtoggle:first", url);
-    struct reply r = test_ready(&i);
-    int is_good = 1;
-    for (uint32_t o = 0; o < OBJECTS; o++) {
-        fill_block(block, lengths[o], seed, o);
-        r = lengths[o] == 0 ? write_filemarks(&i, 1) : write_block(&i, block, lengths[o]);
-        is_good = is_good && condition(&r) == GOOD;
-    }
-    r = write_filemarks(&i, 0);
-    is_good = is_good && condition(&r) == GOOD;
-    r = locate(&i, 0, PLACE);
-    verdict(is_good && condition(&r) == GOOD, "a tape of %d objects, all final; the drive is at object %d", OBJECTS, PLACE);
+    tape.seed = seed;
+    int is_put = put_tape(&i, &tape);
+    struct reply r = locate(&i, 0, PLACE);
+    verdict(is_put && condition(&r) == GOOD, "a tape of %d objects, all final; the drive is at %d", OBJECTS, PLACE);
     disconnect(&i);
 }
 
@@ -146,8 +126,8 @@ static int log_in_to_disturb(struct plain *p)
 /* Commands that move or write, or that a later one would meet: not for the tape's own unit. */
 static int changes_something(uint8_t operation)
 {
-    static const uint8_t those[] = {REWIND, READ, WRITE, WRITE_FILEMARKS, SPACE, MODE_SELECT, ERASE, LOAD_UNLOAD, LOCATE,
-                                    SPACE_16, LOCATE_16, 0x1e /* PREVENT ALLOW */};
+    static const uint8_t those[] = {REWIND, READ, WRITE, WRITE_FILEMARKS, SPACE, MODE_SELECT, ERASE, LOAD_UNLOAD,
+                                    LOCATE, SPACE_16, LOCATE_16, 0x1e /* PREVENT ALLOW */};
     return memchr(those, operation, sizeof those) != NULL;
 }
 
@@ -159,8 +139,8 @@ static int is_own_unit(const uint8_t *lun)
 
 static void draw_command(uint8_t *header)
 {
-    static const uint8_t known[] = {TEST_UNIT_READY, REQUEST_SENSE, READ_BLOCK_LIMITS, INQUIRY, MODE_SENSE, READ_POSITION,
-                                    0xa0 /* REPORT LUNS */, READ, WRITE, MODE_SELECT};
+    static const uint8_t known[] = {TEST_UNIT_READY, REQUEST_SENSE, READ_BLOCK_LIMITS, INQUIRY, MODE_SENSE,
+                                    READ_POSITION, 0xa0 /* REPORT LUNS */, READ, WRITE, MODE_SELECT};
     uint8_t *command = header + UNIT_COMMAND;
     if (one_in(2))
         command[0] = known[draw(sizeof known)];
@@ -266,6 +246,7 @@ static void play(int rounds)
                                              "data outside of its command"};
     int sent[KINDS] = {0};
     for (int round = 1; round <= rounds; round++) {
+        random_state = mixed(seed ^ (uint64_t)round); /* whatever waited for the transport has drawn */
         uint32_t kind = draw_kind();
         kinds[kind]();
         sent[kind]++;

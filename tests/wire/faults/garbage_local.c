@@ -6,39 +6,22 @@
  * but the end of its connection, and a right request, over a new connection and over one that was open all the time, is
  * answered as before. At the limits themselves requests are served. Exit status: 0 if all holds, 1 if not. */
 #define _DEFAULT_SOURCE
-#include "daemon/wire.h"
+#define PAST_THE_TRANSPORT
+#include "host.h"
 #include <draw.h>
-#include <stdio.h>
-#include <stdlib.h>
 #include <sys/time.h>
-#include <unistd.h>
 
-enum { POSITION_SHORT = 20, MOST_BYTES = 4096, IDLE = 64 };
+enum { MOST_BYTES = 4096, IDLE = 64, WRITTEN = 1000, WRITE_LENGTH = REQUEST_LENGTH + SIX + WRITTEN };
 
 static const char *path;
-static int failures;
 
-static void verdict(int holds, const char *what, unsigned long number)
+static struct initiator open_connection(void)
 {
-    failures += !holds;
-    printf("%s: %s (%lu)\n", holds ? "ok" : "FAILED", what, number);
-    fflush(stdout);
-}
-
-/* ---- a connection */
-
-static int connect_to_daemon(void)
-{
-    struct sockaddr_un address;
+    struct initiator i = connect_to("", path);
     struct timeval patience = {.tv_sec = 10};
-    int fd = socket(AF_UNIX, SOCK_STREAM, 0);
-    if (fd < 0 || !local_address(&address, path) || connect(fd, (struct sockaddr *)&address, sizeof address) != 0) {
-        fprintf(stderr, "%s: cannot be connected to: %s\n", path, strerror(errno));
-        exit(EXIT_FAILURE);
-    }
-    setsockopt(fd, SOL_SOCKET, SO_RCVTIMEO, &patience, sizeof patience);
-    setsockopt(fd, SOL_SOCKET, SO_SNDTIMEO, &patience, sizeof patience);
-    return fd;
+    setsockopt(i.fd, SOL_SOCKET, SO_RCVTIMEO, &patience, sizeof patience);
+    setsockopt(i.fd, SOL_SOCKET, SO_SNDTIMEO, &patience, sizeof patience);
+    return i;
 }
 
 /* Whether the other end closes the connection, and sends no byte before that. */
@@ -49,35 +32,16 @@ static int is_closed_without_answer(int fd)
     return got == 0 || (got < 0 && errno == ECONNRESET);
 }
 
-/* ---- right requests */
-
-static int ask_daemon(int fd, struct request r, const uint8_t *command, struct reply *reply, uint8_t *received)
-{
-    uint8_t head[REQUEST_LENGTH], answer[REPLY_LENGTH], sense[STORMTOGGLE_SENSE_LENGTH];
-    write_request(head, r);
-    return send_whole(fd, head, sizeof head) && send_whole(fd, command, r.command_length) &&
-           receive_whole(fd, answer, sizeof answer) && read_reply(answer, &r, reply) &&
-           receive_whole(fd, sense, reply->sense_length) && receive_whole(fd, received, reply->received_length);
-}
-
-static int tells_position(int fd, uint8_t *position)
-{
-    struct reply reply;
-    return ask_daemon(fd, (struct request){.command_length = TEN, .room = POSITION_SHORT},
-                      (uint8_t[TEN]){READ_POSITION}, &reply, position) &&
-           reply.status == STORMTOGGLE_GOOD && reply.received_length == POSITION_SHORT;
-}
-
-/* A command block of 260 bytes, and room for 64 MiB: the most that there may be. The daemon needs only its length. */
+/* A command block of 260 bytes, and room for 64 MiB: the most that there may be. */
 static int serves_at_limits(void)
 {
-    uint8_t command[LONGEST_COMMAND] = {READ_POSITION}, received[POSITION_SHORT];
-    struct request most = {.command_length = LONGEST_COMMAND, .room = LARGEST_TRANSFER};
-    struct reply reply;
-    int fd = connect_to_daemon();
-    int is_served = ask_daemon(fd, most, command, &reply, received) && reply.received_length == POSITION_SHORT;
-    close(fd);
-    return is_served;
+    const uint8_t command[LONGEST_COMMAND] = {READ_POSITION};
+    uint8_t *most = malloc(LARGEST_TRANSFER);
+    struct initiator i = open_connection();
+    struct reply r = ask_receiving(&i, command, sizeof command, most, LARGEST_TRANSFER);
+    disconnect(&i);
+    free(most);
+    return most != NULL && condition(&r) == GOOD && r.received == SHORT_POSITION;
 }
 
 /* ---- wrong ones */
@@ -93,34 +57,36 @@ static uint32_t above(uint32_t limit)
     return one_in(2) ? limit + 1 : limit + 1 + (uint32_t)draw(UINT32_MAX - limit);
 }
 
-/* A WRITE of 1000 bytes, with just one thing wrong in it. */
+/* The head of a WRITE, then its command block and bytes. */
+static void make_write(uint8_t *bytes, struct local_request r)
+{
+    write_request(bytes, r);
+    memcpy(bytes + REQUEST_LENGTH, (uint8_t[SIX]){WRITE, 0, THREE_BYTES(WRITTEN), 0}, SIX);
+    draw_bytes(bytes + REQUEST_LENGTH + SIX, WRITTEN);
+}
+
+/* With just one thing wrong in it. */
 static size_t draw_wrong_request(uint8_t *bytes)
 {
-    struct request r = {.command_length = SIX, .sent_length = 1000};
+    struct local_request r = {.command_length = SIX, .sent_length = WRITTEN};
     uint32_t wrong = draw(4);
-    size_t whole = REQUEST_LENGTH + SIX + r.sent_length;
     if (wrong == 1)
         r.command_length = above(LONGEST_COMMAND);
     if (wrong == 2)
         r.sent_length = above(LARGEST_TRANSFER);
     if (wrong == 3)
         r.room = above(LARGEST_TRANSFER);
-    draw_bytes(bytes, whole);
-    write_request(bytes, r);
-    memcpy(bytes + REQUEST_LENGTH, (uint8_t[SIX]){WRITE, 0, THREE_BYTES(1000), 0}, SIX);
+    make_write(bytes, r);
     if (wrong == 0)
         bytes[draw(4)] ^= (uint8_t)(1 + draw(255)); /* in the mark */
-    return whole;
+    return WRITE_LENGTH;
 }
 
 /* Right as far as it goes. */
 static size_t draw_cut_request(uint8_t *bytes)
 {
-    struct request r = {.command_length = SIX, .sent_length = 1000};
-    write_request(bytes, r);
-    memcpy(bytes + REQUEST_LENGTH, (uint8_t[SIX]){WRITE, 0, THREE_BYTES(1000), 0}, SIX);
-    draw_bytes(bytes + REQUEST_LENGTH + SIX, 1000);
-    return draw(REQUEST_LENGTH + SIX + 1000);
+    make_write(bytes, (struct local_request){.command_length = SIX, .sent_length = WRITTEN});
+    return draw(WRITE_LENGTH);
 }
 
 /* Longer than a request's head; never with its mark. */
@@ -137,53 +103,58 @@ static int is_turned_away(void)
     uint8_t bytes[MOST_BYTES];
     uint32_t kind = draw(3);
     size_t length = kind == 0 ? draw_wrong_request(bytes) : kind == 1 ? draw_cut_request(bytes) : draw_noise(bytes);
-    int fd = connect_to_daemon();
-    send_whole(fd, bytes, length);
+    struct initiator i = open_connection();
+    send_whole(i.fd, bytes, length);
     if (kind == 1)
-        shutdown(fd, SHUT_WR); /* no more comes */
-    int is_closed = is_closed_without_answer(fd);
-    close(fd);
+        shutdown(i.fd, SHUT_WR); /* no more comes */
+    int is_closed = is_closed_without_answer(i.fd);
+    disconnect(&i);
     return is_closed;
 }
 
 /* ---- */
 
-static int is_same_position(int fd, const uint8_t *wanted)
+static int is_served(const struct initiator *i, struct place wanted)
 {
-    uint8_t position[POSITION_SHORT];
-    return tells_position(fd, position) && memcmp(position, wanted, sizeof position) == 0;
+    struct place p = place_of(i);
+    return p.condition == GOOD && p.partition == wanted.partition && p.object == wanted.object;
 }
 
-static int serves_a_new_one(const uint8_t *wanted)
+static int serves_a_new_one(struct place wanted)
 {
-    int fd = connect_to_daemon(), is_same = is_same_position(fd, wanted);
-    close(fd);
+    struct initiator i = open_connection();
+    int is_same = is_served(&i, wanted);
+    disconnect(&i);
     return is_same;
 }
 
-static unsigned long play(unsigned long rounds, int open_all_the_time, const uint8_t *position)
+static unsigned long play(unsigned long rounds, const struct initiator *open_all_the_time, struct place wanted)
 {
     unsigned long round = 0;
-    while (round < rounds && is_turned_away() && serves_a_new_one(position) &&
-           is_same_position(open_all_the_time, position))
+    while (round < rounds && is_turned_away() && serves_a_new_one(wanted) && is_served(open_all_the_time, wanted))
         round++;
     return round;
 }
 
 /* Connections that say a part of a request, and no more. */
-static void open_idle(int *idle)
+static void open_idle(struct initiator *idle)
 {
     uint8_t bytes[MOST_BYTES];
     for (int i = 0; i < IDLE; i++) {
-        idle[i] = connect_to_daemon();
-        send_whole(idle[i], bytes, draw_cut_request(bytes));
+        idle[i] = open_connection();
+        send_whole(idle[i].fd, bytes, draw_cut_request(bytes));
     }
+}
+
+static void close_idle(struct initiator *idle)
+{
+    for (int i = 0; i < IDLE; i++)
+        disconnect(&idle[i]);
 }
 
 int main(int count, char **arguments)
 {
-    uint8_t position[POSITION_SHORT];
-    int idle[IDLE];
+    struct initiator idle[IDLE];
     if (count != 4) {
         fputs("garbage_local SOCKET ROUNDS SEED: garbage on the daemon's local socket\n", stderr);
         return 2;
@@ -191,17 +162,16 @@ int main(int count, char **arguments)
     path = arguments[1];
     unsigned long rounds = strtoul(arguments[2], NULL, 10);
     random_state = seed = strtoull(arguments[3], NULL, 10);
-    int open_all_the_time = connect_to_daemon();
-    if (!tells_position(open_all_the_time, position))
-        verdict(0, "the daemon answers READ POSITION", 0);
-    unsigned long done = play(rounds, open_all_the_time, position);
-    verdict(done == rounds, "wrong, cut and random requests on the local socket are turned away, right ones served", done);
-    verdict(serves_at_limits(), "a request at the limits is served", LARGEST_TRANSFER);
+    struct initiator first = open_connection();
+    struct place wanted = place_of(&first);
+    unsigned long done = play(rounds, &first, wanted);
+    verdict(done == rounds, "%lu wrong, cut and random requests on the local socket were turned away, and after each "
+            "right ones served", done);
+    verdict(serves_at_limits(), "a request at the limits, %d bytes, is served", LARGEST_TRANSFER);
     open_idle(idle);
-    verdict(serves_a_new_one(position) && is_same_position(open_all_the_time, position),
-            "the daemon serves beside connections that fell silent in the middle of a request", IDLE);
-    for (int i = 0; i < IDLE; i++)
-        close(idle[i]);
-    verdict(serves_a_new_one(position), "and when they are gone", IDLE);
+    verdict(serves_a_new_one(wanted) && is_served(&first, wanted),
+            "the daemon serves beside %d connections that fell silent in the middle of a request", IDLE);
+    close_idle(idle);
+    verdict(serves_a_new_one(wanted) && is_served(&first, wanted), "and when they are gone");
     return failures > 0;
 }

@@ -1,12 +1,16 @@
-/* host.h: what the hosts that load and disturb a drive say to it: the few commands that they need, over initiator.h, and
- * answers as one number to compare. */
+/* host.h: what the hosts that load and disturb a drive say to it: the few commands that they need, over initiator.h,
+ * and answers as one number to compare. */
 #ifndef HOST_H
 #define HOST_H
 
 #include "codes.h"
 #include "content.h"
 #include "decode.h"
+#ifdef PAST_THE_TRANSPORT
+#include "local.h"
+#else
 #include "initiator.h"
+#endif
 #include <stdarg.h>
 #include <time.h>
 

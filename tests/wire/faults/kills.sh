@@ -1,7 +1,7 @@
 #!/usr/bin/env bash
-# kills.sh: kills the daemon at random moments while a host writes, KILLS times (every tenth time the transport too), and
-# starts it again on the same files. Each time: the files hold what they must (kills_judge), and the drive mounts and
-# tells the same over the wire (kills_write, before it writes on). Run from the repository's root.
+# kills.sh [KILLS [SEED]]: kills the daemon at random moments while a host writes, KILLS times (every tenth time the
+# transport too), and starts it again on the same files. Each time: the files hold what they must (kills_judge), and the
+# drive mounts and tells the same over the wire (kills_write, before it writes on). Run from the repository's root.
 set -u
 kills=${1:-200} seed=${2:-20261117} within=${KILL_WITHIN:-60000}
 . tests/host.sh
@@ -20,7 +20,8 @@ trap 'end 1' INT TERM
 
 fail() { # WHY
     echo "FAILED: kill $kill of $kills: $1"
-    tail -n 5 "$scratch/daemon.log" "$scratch/said" 2>/dev/null
+    grep -hv Killed "$scratch/said" | tail -n 2
+    tail -n 3 "$scratch/daemon.log"
     end 1
 }
 
@@ -52,8 +53,8 @@ make_cartridge() {
 kill_once() {
     local victims=("$daemon")
     [ $((kill % 10)) -gt 0 ] || victims+=("$tgtd")
-    timeout 60 "$wire/kills_write" "iscsi://127.0.0.1:$port/$target_name/0" "$scratch/state" "$scratch/journal" "$seed" \
-        "$kill" "$within" "${victims[@]}" >"$scratch/writer" 2>&1 || fail "$(cat "$scratch/writer")"
+    timeout 60 "$wire/kills_write" "iscsi://127.0.0.1:$port/$target_name/0" "$scratch/state" "$scratch/journal" \
+        "$seed" "$kill" "$within" "${victims[@]}" >"$scratch/writer" 2>&1 || fail "$(cat "$scratch/writer")"
     await "$daemon"
     [ $? -eq 137 ] || fail "the daemon ended by itself"
     cat "$scratch/journal" >>"$scratch/journals"
@@ -71,8 +72,8 @@ say_tally() {
     awk -v commands="$commands" -v kills="$kills" -v mounted="$mounted" -v torn="$torn" -v seconds="$SECONDS" '
         { fell[$1]++; held[$2 ", " $3]++; objects += $4; bytes += $5 }
         END {
-            printf "    %d kills in %d s: %d mounted, %d torn; %d objects and %.1f GB compared in the files, after %d commands\n",
-                kills, seconds, mounted, torn, objects, bytes / 1e9, commands
+            printf "    %d kills in %d s: %d mounted, %d torn; ", kills, seconds, mounted, torn
+            printf "%d objects and %.1f GB compared in the files, after %d commands\n", objects, bytes / 1e9, commands
             printf "    the kills fell into:"
             for (kind in fell) printf " %s %d;", kind, fell[kind]
             printf "\n    the two files then held:"
@@ -96,6 +97,6 @@ done
 say_tally
 in_writing=$(grep -c '^WRITE\|^ERASE\|^UNLOAD' "$scratch/tally")
 [ $((in_writing * 3)) -ge "$kills" ] || fail "only $in_writing kills fell into a command that writes"
-echo "ok: $kills kills, $in_writing of them in the middle of a command that writes or makes final: all mounted, and held" \
-    "what was final, exactly"
+echo "ok: $kills kills, $in_writing of them in the middle of a command that writes or makes final: all mounted, and" \
+    "held what was final, exactly"
 end 0

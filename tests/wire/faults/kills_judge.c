@@ -128,7 +128,8 @@ static int holds(const struct image *images, enum held first, enum held second)
 /* In the order in which the file goes through them. */
 static int find_held(const struct image *images, int is_final, enum held held[PARTITIONS])
 {
-    static const enum held ways[][PARTITIONS] = {{BEFORE, BEFORE}, {CUT, BEFORE}, {NOW, BEFORE}, {NOW, CUT}, {NOW, NOW}};
+    static const enum held ways[][PARTITIONS] = {{BEFORE, BEFORE}, {CUT, BEFORE}, {NOW, BEFORE}, {NOW, CUT},
+                                                 {NOW, NOW}};
     int count = is_final ? (int)(sizeof ways / sizeof *ways) : 1;
     for (int i = 0; i < count; i++)
         if (holds(images, ways[i][0], ways[i][1])) {

@@ -7,8 +7,8 @@
  * journal. Within so many microseconds it sends SIGKILL to the processes. Exit status: 0 if the daemon fell and all
  * answers before that were right, 1 if not. */
 #define _POSIX_C_SOURCE 200809L
-#include "host.h"
 #include "model.h"
+#include "tape.h"
 #include <draw.h>
 #include <fcntl.h>
 #include <pthread.h>
@@ -22,7 +22,6 @@ static const uint64_t room_used[PARTITIONS] = {56 << 20, 12 << 20};
 
 static struct model model;
 static struct initiator host;
-static uint8_t block[LARGEST_BLOCK], room[LARGEST_BLOCK];
 static int journal;
 
 /* ---- the mount, over the wire */
@@ -31,15 +30,6 @@ static int is_at(unsigned partition, uint32_t object)
 {
     struct place p = place_of(&host);
     return p.condition == GOOD && p.partition == partition && p.object == object;
-}
-
-static int is_read_as(struct object o)
-{
-    struct reply r = read_block(&host, room);
-    if (o.length == 0)
-        return condition(&r) == FILEMARK_DETECTED;
-    fill_block(block, o.length, seed, o.number);
-    return condition(&r) == GOOD && r.received == o.length && memcmp(room, block, o.length) == 0;
 }
 
 static int is_found(uint8_t partition)
@@ -53,7 +43,7 @@ static int is_found(uint8_t partition)
     if (condition(&r) != GOOD)
         return 0;
     for (uint32_t i = from; i < t->count; i++)
-        if (!is_read_as(t->objects[i]))
+        if (!reads_as(&host, seed, t->objects[i].number, t->objects[i].length))
             return 0;
     return is_at(partition, t->count);
 }
@@ -74,7 +64,7 @@ static void check_mount(void)
 {
     uint32_t first = first_answer();
     if (first != MEDIUM_CHANGED || !is_at(0, 0)) {
-        verdict(0, "the drive answers %06" PRIx32 " after a start, and not the attention 6/28/00 at the beginning", first);
+        verdict(0, "a drive just started answers %06" PRIx32 ", and not the attention 6/28/00 at the beginning", first);
         exit(EXIT_FAILURE);
     }
     for (uint8_t p = 0; p < PARTITIONS; p++)
@@ -232,7 +222,7 @@ int main(int count, char **arguments)
     struct blow blow = {0};
     pthread_t thread;
     if (count < 8 || !read_state(&model, arguments[2]) || !read_arguments(arguments, &blow)) {
-        fputs("kills_write URL STATE JOURNAL SEED KILL WITHIN PROCESS...: writes until it has killed the processes\n", stderr);
+        fputs("kills_write URL STATE JOURNAL SEED KILL WITHIN PROCESS...: writes until it has killed these\n", stderr);
         return 2;
     }
     journal = open(arguments[3], O_WRONLY | O_CREAT | O_TRUNC | O_APPEND, 0600);

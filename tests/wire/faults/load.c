@@ -3,8 +3,9 @@
  *
  *   load URL COUNT SEED
  *
- * of a drive that has just been started, with an empty cartridge. Each host writes COUNT blocks. Exit status: 0 if all
- * holds, 1 if not. */
+ * of a drive that has just been started, with an empty cartridge. Each host writes COUNT blocks. With
+ * PAST_THE_TRANSPORT defined, the path of the daemon's own socket stands for the URL. Exit status: 0 if all holds, 1 if
+ * not. */
 #define _POSIX_C_SOURCE 200809L
 #include "host.h"
 #include <inttypes.h>
@@ -251,7 +252,7 @@ static void check_attention(void)
     all_at_once(meet);
     for (int i = 0; i < HOSTS; i++)
         attentions += hosts[i].attentions;
-    verdict(attentions == 1 && wrong_answers() == 0, "of %d hosts that connect at once, %d met the one attention 6/28/00",
+    verdict(attentions == 1 && wrong_answers() == 0, "of %d hosts that connect at once, %d met the attention 6/28/00",
             HOSTS, attentions);
 }
 
@@ -270,8 +271,8 @@ static void learn(void)
 static void check_writing(void)
 {
     double seconds = all_at_once(write_all);
-    verdict(wrong_answers() == 0, "%d hosts at once wrote %" PRIu32 " blocks each of 1 to %d bytes, and asked for other "
-            "things between: each answer was right", HOSTS, blocks_each, LARGEST_BLOCK);
+    verdict(wrong_answers() == 0, "%d hosts at once wrote %" PRIu32 " blocks each of 1 to %d bytes, and asked for "
+            "other things between: each answer was right", HOSTS, blocks_each, LARGEST_BLOCK);
     say_numbers("writing", HOSTS, seconds);
 }
 
@@ -304,7 +305,7 @@ static size_t check_tape(uint64_t *sums)
         h->bytes += r.received;
     }
     verdict(came == END_OF_DATA && read == HOSTS * blocks_each,
-            "one host reads %zu of %" PRIu32 " blocks back: those of each host in its order, each once, and nothing else",
+            "one host reads %zu of %" PRIu32 " blocks back: those of each host in its order, each once, and no other",
             read, HOSTS * blocks_each);
     say_numbers("reading, one host", 1, seconds_now() - began);
     return read;
@@ -332,7 +333,7 @@ static void check_reading(uint64_t *wanted, size_t count)
     qsort(got, total, sizeof *got, compare_sums);
     qsort(wanted, count, sizeof *wanted, compare_sums);
     verdict(wrong_answers() == 0 && total == count && memcmp(got, wanted, count * sizeof *got) == 0,
-            "%d hosts that read at once got %zu of %zu blocks together, each once and whole; one host %zu to %zu of them",
+            "%d hosts that read at once got %zu of %zu blocks together, each once and whole; one host %zu to %zu",
             HOSTS, total, count, least, most);
     say_numbers("reading", HOSTS, seconds);
     free(got);

@@ -3,13 +3,13 @@
  * and the journal of what was sent since.
  *
  * What is final is on the file's pages. The daemon changes them only at a final point (WRITE FILEMARKS, ERASE, an
- * unload; it would do so too if more than 64 MiB waited, which these partitions have no room for), partition 0 before 1,
- * and in a partition in an order by which the file always holds one of three tapes:
+ * unload; it would do so too if more than 64 MiB waited, which these partitions have no room for), partition 0 before
+ * 1, and in a partition in an order by which the file always holds one of three tapes:
  *   BEFORE  what was final before,
  *   CUT     of that, the objects below the lowest that was changed since,
  *   NOW     what stands.
- * So after a kill each partition holds its BEFORE, exactly, unless the command that the kill fell into is a final point;
- * and then one of the three, partition 1 not CUT or NOW unless partition 0 is NOW. */
+ * So after a kill each partition holds its BEFORE, exactly, unless the command that the kill fell into is a final
+ * point; and then one of the three, partition 1 not CUT or NOW unless partition 0 is NOW. */
 #ifndef MODEL_H
 #define MODEL_H
 

@@ -1,5 +1,5 @@
-/* plain.h: iSCSI by hand over a plain TCP socket, as far as a host needs it that breaks its rules: login, a SCSI command,
- * data that it sends, and all of it cut off after so many bytes. (RFC 7143 has the layouts.) */
+/* plain.h: iSCSI by hand over a plain TCP socket, as far as a host needs it that breaks its rules: login, a SCSI
+ * command, data that it sends, and all of it cut off after so many bytes. (RFC 7143 has the layouts.) */
 #ifndef PLAIN_H
 #define PLAIN_H
 
@@ -213,7 +213,8 @@ static inline int send_data(struct plain *p, uint16_t lun, uint32_t ready, const
     uint32_t number = 0, most = p->segment;
     while (length > 0) {
         uint32_t now = length < most ? length : most;
-        uint8_t header[UNIT_HEADER] = {SEND_DATA, now == length ? IS_FINAL : 0, [UNIT_LUN] = BYTE(lun, 8), BYTE(lun, 0)};
+        uint8_t header[UNIT_HEADER] = {SEND_DATA, [UNIT_LUN] = BYTE(lun, 8), BYTE(lun, 0)};
+        header[UNIT_FLAGS] = now == length ? IS_FINAL : 0;
         put_number(header + UNIT_TAG, p->tag);
         put_number(header + UNIT_FIELD, ready);
         put_number(header + UNIT_DATA_NUMBER, number++);

@@ -4,11 +4,11 @@
  *
  * of a drive with an empty cartridge, whose file this is. TIMES hosts begin a WRITE of 1 MiB and send part of it:
  * nothing of it stands, and position and objects are as before. As many READ a block of 1 MiB, and take part of the
- * answer: the READ was carried out, so the position is behind the block, and the objects are as before. The next host is
- * served at once. Exit status: 0 if all holds, 1 if not. */
+ * answer: the READ was carried out, so the position is behind the block, and the objects are as before. The next host
+ * is served at once. Exit status: 0 if all holds, 1 if not. */
 #define _DEFAULT_SOURCE
-#include "host.h"
 #include "plain.h"
+#include "tape.h"
 #include <draw.h>
 
 enum { OBJECTS = 5, TRANSFER = LARGEST_BLOCK };
@@ -16,50 +16,16 @@ static const double seconds_at_once = 1.0;
 
 /* The tape, where a filemark has length 0: what a WRITE at any place would cut, and where READ finds a whole MiB. */
 static const uint32_t lengths[OBJECTS] = {TRANSFER, 65536, 0, TRANSFER, 3000};
+static struct known_tape tape = {.count = OBJECTS, .lengths = lengths};
 
 struct target {
     const char *host, *port, *name;
     char url[300];
 };
 
-static uint8_t block[TRANSFER], room[TRANSFER];
 static double longest_wait;
 
 /* ---- the host that comes next */
-
-static void make_tape(const struct initiator *i)
-{
-    int is_good = 1;
-    struct reply r = test_ready(i);
-    for (uint32_t o = 0; o < OBJECTS; o++) {
-        fill_block(block, lengths[o], seed, o);
-        r = lengths[o] == 0 ? write_filemarks(i, 1) : write_block(i, block, lengths[o]);
-        is_good = is_good && condition(&r) == GOOD;
-    }
-    r = write_filemarks(i, 0);
-    verdict(is_good && condition(&r) == GOOD, "a tape of %d objects, all final", OBJECTS);
-}
-
-static int is_object(const struct initiator *i, uint32_t object)
-{
-    struct reply r = read_block(i, room);
-    if (lengths[object] == 0)
-        return condition(&r) == FILEMARK_DETECTED;
-    fill_block(block, lengths[object], seed, object);
-    return condition(&r) == GOOD && r.received == lengths[object] && memcmp(room, block, r.received) == 0;
-}
-
-static int is_tape(const struct initiator *i)
-{
-    struct reply r = locate(i, 0, 0);
-    if (condition(&r) != GOOD)
-        return 0;
-    for (uint32_t o = 0; o < OBJECTS; o++)
-        if (!is_object(i, o))
-            return 0;
-    r = read_block(i, room);
-    return condition(&r) == END_OF_DATA;
-}
 
 /* Connects anew, finds the position and the objects, and puts the tape where the next transfer begins. */
 static int is_as_it_must(const struct target *t, uint32_t position, uint32_t next)
@@ -68,7 +34,7 @@ static int is_as_it_must(const struct target *t, uint32_t position, uint32_t nex
     struct initiator i = connect_to("iqn.2026-11.example.stormtoggle:next", t->url);
     struct place p = place_of(&i);
     double waited = seconds_now() - began;
-    int is_right = p.condition == GOOD && p.partition == 0 && p.object == position && is_tape(&i);
+    int is_right = p.condition == GOOD && p.partition == 0 && p.object == position && is_tape(&i, &tape);
     struct reply r = locate(&i, 0, next);
     disconnect(&i);
     longest_wait = waited > longest_wait ? waited : longest_wait;
@@ -163,8 +129,14 @@ static void vanish_by(const struct target *t, const struct way *w, int times)
             return;
     }
     verdict(1, "%d hosts vanished in a %s of 1 MiB: %s, and the objects are as before", done, w->name, w->held);
-    verdict(longest_wait < seconds_at_once, "the next host was served at once, after %.0f ms at most", longest_wait * 1e3);
+    verdict(longest_wait < seconds_at_once, "the next host was served at once, after %.0f ms at most",
+            longest_wait * 1e3);
 }
+
+static const struct way writing = {"WRITE", "nothing of it stands, the position is as before", write_in_part,
+                                   {0, 1, 2, 3, 4, 5}, OBJECTS + 1, 0};
+static const struct way reading = {"READ", "it was carried out, the position is behind its block", read_in_part,
+                                   {0, 3}, 2, 1};
 
 int main(int count, char **arguments)
 {
@@ -177,13 +149,12 @@ int main(int count, char **arguments)
     snprintf(t.url, sizeof t.url, "iscsi://%s:%s/%s/0", t.host, t.port, t.name);
     random_state = seed = strtoull(arguments[6], NULL, 10);
     struct initiator i = connect_to("iqn.2026-11.example.stormtoggle:first", t.url);
-    make_tape(&i);
+    tape.seed = seed;
+    verdict(put_tape(&i, &tape), "a tape of %d objects, all final", OBJECTS);
     disconnect(&i);
     uint64_t sum = sum_of_file(arguments[4]);
-    vanish_by(&t, &(struct way){"WRITE", "nothing of it stands, the position is as before", write_in_part,
-                                {0, 1, 2, 3, 4, 5}, 6, 0}, times);
-    vanish_by(&t, &(struct way){"READ", "it was carried out, the position is behind its block", read_in_part, {0, 3}, 2, 1},
-              times);
+    vanish_by(&t, &writing, times);
+    vanish_by(&t, &reading, times);
     expect_same_file(arguments[4], sum);
     return failures > 0;
 }
