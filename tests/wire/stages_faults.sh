@@ -1,34 +1,35 @@
 # stages_faults.sh: sourced for the stages of load and faults, a function each: load_stage, kills_stage, garbage_stage
 # and vanish_stage. Each starts a drive of its own with an empty cartridge, prints a line for each check ('ok: ' or
-# 'FAILED: ') and its numbers, and returns 0 exactly if all passed. Needs tests/host.sh; run from the repository's root.
+# 'FAILED: ') and its numbers, and returns 0 exactly if all passed. Needs tests/host.sh, examples/daemon/transport.sh
+# and tests/wire/stages.sh; run from the repository's root.
 # shellcheck shell=bash disable=SC2154
 . tests/wire/faults/build.sh
-faults_seed=20261117
-drive_name=iqn.2026-11.example.stormtoggle:drive
+faults_seed=20261117 longest_fault=600
 
 # ---- a drive for a stage
 
-# Sets folder, server, port and daemon.
-open_drive() { # SIZE
-    local tenths
-    folder=$(mktemp -d) && chmod 711 "$folder" && port=$(free_port) || return
-    ./serve --blank "$1" --listen "127.0.0.1:$port" --log "$folder/log" "$folder/cartridge" >"$folder/said" 2>&1 &
-    server=$!
-    for ((tenths = 0; tenths < 1200; tenths++)); do
-        grep -q '^ready: ' "$folder/said" && daemon=$(find_daemon) && return
-        kill -0 "$server" 2>/dev/null || break
-        sleep 0.1
-    done
-    echo "FAILED: ./serve does not become ready:"
-    cat "$folder/said"
-    close_drive
-    return 1
+judge() { # STATUS WHAT
+    if [ "$1" -eq 0 ]; then echo "ok: $2"; else echo "FAILED: $2"; fi
+    return "$1"
 }
 
-# Of serve's children, the one with a socket.
+# With a cartridge in a file of its own, whose name is in cartridge.
+start_blank() { # NAME SIZE
+    cartridge=$accepted/$1.cartridge
+    mkdir -p "$accepted" && rm -f "$cartridge" && start_drive "$1" --blank "$2" "$cartridge"
+}
+
+stop_blank() { # NAME
+    local status=0
+    stop_drive "$1" || status=$?
+    rm -f "$cartridge"
+    judge "$status" "the drive stopped by a signal"
+}
+
+# The daemon is that child of serve which has a socket.
 find_daemon() {
     local process processes
-    read -r -a processes <"/proc/$server/task/$server/children"
+    read -r -a processes <"/proc/$drive/task/$drive/children"
     for process in "${processes[@]}"; do
         [ -z "$(socket_of "$process")" ] || { echo "$process" && return; }
     done
@@ -39,28 +40,12 @@ socket_of() { # PROCESS
     tr '\0' '\n' <"/proc/$1/cmdline" | sed -n '/^--socket$/{n;p;}'
 }
 
-# Stops the drive, and clears up; fails unless serve says that all is well.
-close_drive() {
+# A program that hangs is a failed check.
+run_fault() { # PROGRAM ARGUMENT...
     local status=0
-    kill -TERM "$server" 2>/dev/null
-    wait "$server" || status=$?
-    rm -rf "$folder"
+    timeout "$longest_fault" "$wire/$1" "${@:2}" "$faults_seed" || status=$?
+    [ "$status" -ne 124 ] || echo "FAILED: $1: not done within $longest_fault seconds"
     return "$status"
-}
-
-judge() { # STATUS WHAT
-    if [ "$1" -eq 0 ]; then echo "ok: $2"; else echo "FAILED: $2"; fi
-    return "$1"
-}
-
-is_running() { # PROCESS
-    [ "$(sed -n 's/^State:[[:space:]]*\(.\).*/\1/p' "/proc/$1/status" 2>/dev/null | tr -d Z)" ]
-}
-
-judge_stop() {
-    local status=0
-    close_drive || status=$?
-    judge "$status" "the drive stopped by a signal, with exit status $status"
 }
 
 # ---- the stages
@@ -68,49 +53,52 @@ judge_stop() {
 # Over the wire, and then past the transport, which hands on one command at a time: the daemon's own lock is tried too.
 load_stage() {
     local status=0
-    build_load_local && open_drive 1G || return 1
+    build_load_local && start_blank load 1G || return 1
     echo "eight hosts over iSCSI:"
-    timeout 300 "$wire/load" "iscsi://127.0.0.1:$port/$drive_name/0" 500 "$faults_seed" || status=1
-    judge_stop || status=1
-    open_drive 1G || return 1
+    run_fault load "$url" 500 || status=1
+    stop_blank load || status=1
+    start_blank load_local 1G || return 1
     echo "eight hosts on the daemon's own socket:"
-    timeout 300 "$wire/load_local" "$(socket_of "$daemon")" 500 "$faults_seed" || status=1
-    judge_stop || status=1
+    run_fault load_local "$(socket_of "$(find_daemon)")" 500 || status=1
+    stop_blank load_local || status=1
     return "$status"
 }
 
 kills_stage() {
-    timeout 600 tests/wire/faults/kills.sh 200 "$faults_seed"
+    timeout "$longest_fault" tests/wire/faults/kills.sh 200 "$faults_seed"
 }
 
 vanish_stage() {
     local status=0
-    build_wire vanish && open_drive 64M || return 1
-    timeout 300 "$wire/vanish" 127.0.0.1 "$port" "$drive_name" "$folder/cartridge" 100 "$faults_seed" || status=1
-    judge_stop || status=1
+    build_wire vanish && start_blank vanish 64M || return 1
+    run_fault vanish "$url" "$cartridge" 100 || status=1
+    stop_blank vanish || status=1
     return "$status"
 }
 
+number_of() { # PROCESS NAME
+    sed -n "s/^$2:[[:space:]]*\([0-9]*\).*/\1/p" "/proc/$1/status"
+} 2>/dev/null
+
 # A connection's thread ends with it: of those of the garbage none is left, but for some that end this moment.
-judge_threads() {
+judge_daemon() { # PROCESS
     local threads tenths
     for ((tenths = 0; tenths < 50; tenths++)); do
-        threads=$(sed -n 's/^Threads:[[:space:]]*//p' "/proc/$daemon/status")
-        [ "${threads:-99}" -gt 4 ] || break
+        threads=$(number_of "$1" Threads)
+        [ "${threads:-0}" -gt 4 ] || break
         sleep 0.1
     done
-    [ "${threads:-99}" -le 4 ]
-    judge $? "the daemon is the process that it was, with ${threads:-no} threads and at most $(sed -n \
-        's/^VmHWM:[[:space:]]*//p' "/proc/$daemon/status") of memory"
+    [ "${threads:-0}" -gt 0 ] && [ "$threads" -le 4 ]
+    judge $? "the daemon is the process that it was, with ${threads:-no} threads and at most $(number_of "$1" VmHWM) kB"
 }
 
 garbage_stage() {
-    local status=0
-    build_wire garbage garbage_local && open_drive 64M || return 1
-    timeout 300 "$wire/garbage" 127.0.0.1 "$port" "$drive_name" "$folder/cartridge" 400 "$faults_seed" || status=1
-    timeout 300 "$wire/garbage_local" "$(socket_of "$daemon")" 2000 "$faults_seed" || status=1
-    is_running "$daemon" && judge_threads || status=1
-    echo "    the transport fell $(grep -c 'the transport fell' "$folder/said") times, and was started again"
-    judge_stop || status=1
+    local status=0 daemon
+    build_wire garbage garbage_local && start_blank garbage 64M && daemon=$(find_daemon) || return 1
+    run_fault garbage "$url" "$cartridge" 400 || status=1
+    run_fault garbage_local "$(socket_of "$daemon")" 2000 || status=1
+    judge_daemon "$daemon" || status=1
+    echo "    the transport fell $(grep -c 'the transport fell' "$accepted/garbage.serve") times, and was started again"
+    stop_blank garbage || status=1
     return "$status"
 }

@@ -1,5 +1,4 @@
-# build.sh: sourced by the scripts that load and disturb the drive: builds their programs, and finds a free port. Needs
-# tests/host.sh.
+# build.sh: sourced by the scripts that load and disturb the drive: builds their programs. Needs tests/host.sh.
 # shellcheck shell=bash disable=SC2154
 
 wire=target/wire
@@ -25,14 +24,4 @@ build_load_local() {
 build_over_library() { # NAME
     mkdir -p "$wire" && "$compiler" "${wire_flags[@]}" -o "$wire/$1" "tests/wire/faults/$1.c" \
         target/staticlib/libstormtoggle.a
-}
-
-# A port of the loopback that nobody listens on.
-free_port() {
-    local port tries
-    for ((tries = 0; tries < 100; tries++)); do
-        port=$((20000 + RANDOM % 12000))
-        (exec 3<>"/dev/tcp/127.0.0.1/$port") 2>/dev/null || { echo "$port" && return; }
-    done
-    return 1
 }

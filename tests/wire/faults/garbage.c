@@ -1,6 +1,6 @@
 /* garbage.c: garbage on the drive's port: what no host sends, or none that is right.
  *
- *   garbage HOST PORT TARGET CARTRIDGE ROUNDS SEED
+ *   garbage URL CARTRIDGE ROUNDS SEED
  *
  * of a drive with an empty cartridge, whose file this is. Four kinds by turns: bytes at random; after a right login,
  * units with operation codes, lengths and claims at random; data for a command outside of what the command said; and
@@ -18,8 +18,8 @@ enum { OBJECTS = 4, PLACE = 2, MOST_GARBAGE = 65536, SILENT = 8, ROUNDS_A_CHECK 
 static const uint32_t lengths[OBJECTS] = {70000, 1, 0, LARGEST_BLOCK};
 static struct known_tape tape = {.count = OBJECTS, .lengths = lengths};
 
-static const char *host_name, *port, *target;
-static char url[300];
+static const char *url;
+static struct address address;
 static uint8_t garbage[MOST_GARBAGE];
 static int silent[SILENT], waits;
 
@@ -102,7 +102,7 @@ static void close_after_answer(int fd)
 
 static void send_bytes(void)
 {
-    struct plain p = {.fd = connect_plainly(host_name, port), .left = UINT64_MAX};
+    struct plain p = {.fd = connect_plainly(&address), .left = UINT64_MAX};
     size_t length = 1 + draw(one_in(4) ? MOST_GARBAGE : 200);
     if (p.fd < 0) {
         wait_a_tenth();
@@ -117,7 +117,7 @@ static void send_bytes(void)
 
 static int log_in_to_disturb(struct plain *p)
 {
-    if (log_in(p, host_name, port, "iqn.2026-11.example.stormtoggle:garbage", target, one_in(2), one_in(2)))
+    if (log_in(p, &address, "iqn.2026-11.example.stormtoggle:garbage", one_in(2), one_in(2)))
         return 1;
     wait_a_tenth();
     return 0;
@@ -217,7 +217,7 @@ static void fall_silent(void)
     if (is_logged_in && !log_in_to_disturb(&p))
         return;
     if (!is_logged_in)
-        p = (struct plain){.fd = connect_plainly(host_name, port), .left = UINT64_MAX};
+        p = (struct plain){.fd = connect_plainly(&address), .left = UINT64_MAX};
     if (p.fd < 0) {
         wait_a_tenth();
         return;
@@ -264,20 +264,17 @@ static void play(int rounds)
 
 int main(int count, char **arguments)
 {
-    if (count != 7) {
-        fputs("garbage HOST PORT TARGET CARTRIDGE ROUNDS SEED: garbage on the drive's port\n", stderr);
+    if (count != 5 || !is_address(&address, arguments[1])) {
+        fputs("garbage URL CARTRIDGE ROUNDS SEED: garbage on the drive's port\n", stderr);
         return 2;
     }
-    host_name = arguments[1];
-    port = arguments[2];
-    target = arguments[3];
-    random_state = seed = strtoull(arguments[6], NULL, 10);
-    snprintf(url, sizeof url, "iscsi://%s:%s/%s/0", host_name, port, target);
+    url = arguments[1];
+    random_state = seed = strtoull(arguments[4], NULL, 10);
     for (int i = 0; i < SILENT; i++)
         silent[i] = -1;
     make_tape();
-    uint64_t sum = sum_of_file(arguments[4]);
-    play(atoi(arguments[5]));
-    expect_same_file(arguments[4], sum);
+    uint64_t sum = sum_of_file(arguments[2]);
+    play(atoi(arguments[3]));
+    expect_same_file(arguments[2], sum);
     return failures > 0;
 }

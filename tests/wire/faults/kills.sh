@@ -6,6 +6,7 @@ set -u
 kills=${1:-200} seed=${2:-20261117} within=${KILL_WITHIN:-60000}
 . tests/host.sh
 . examples/daemon/transport.sh
+. tests/wire/stages.sh
 . tests/wire/faults/build.sh
 
 daemon='' tgtd='' run_folder='' scratch=''
@@ -26,7 +27,7 @@ fail() { # WHY
 }
 
 # A socket that a killed daemon left would look like one that is listened on.
-start_drive() {
+start_again() {
     rm -f "$run_folder/drive"
     start_daemon --user nobody --log "$scratch/daemon.log" "$scratch/first" "$scratch/second" >>"$scratch/said" 2>&1
     kill -0 "$daemon" 2>/dev/null && return
@@ -41,12 +42,11 @@ start_transport() {
     start_tgt "127.0.0.1:$port" 127.0.0.1 || fail "the transport does not start"
 }
 
-# The second partition is smaller: made by a daemon of its own, which is stopped at once.
 make_cartridge() {
-    start_daemon --user nobody --log "$scratch/daemon.log" --blank 64M "$scratch/first" >>"$scratch/said" 2>&1
-    stop_daemon || fail "no cartridge can be made"
-    start_daemon --user nobody --log "$scratch/daemon.log" --blank 16M "$scratch/second" >>"$scratch/said" 2>&1
-    stop_daemon || fail "no cartridge can be made"
+    if ! "${runner[@]}" "$built/cartridge" blank 64M "$scratch/first" >>"$scratch/said" 2>&1 ||
+        ! "${runner[@]}" "$built/cartridge" blank 16M "$scratch/second" >>"$scratch/said" 2>&1; then
+        fail "no cartridge can be made"
+    fi
     printf '1\n0\n0\n' >"$scratch/state"
 }
 
@@ -62,7 +62,7 @@ kill_once() {
         >"$scratch/judged" || fail "$(cat "$scratch/judged")"
     cat "$scratch/judged" >>"$scratch/tally"
     [ ${#victims[@]} -eq 1 ] || { await "$tgtd" || true; start_transport; }
-    start_drive
+    start_again
     mounted=$((mounted + 1))
 }
 
@@ -88,7 +88,7 @@ kill=0 mounted=0 torn=0 port=$(free_port)
 echo "kills: $kills, seed $seed, within $within microseconds each"
 make_cartridge
 start_transport
-start_drive
+start_again
 while [ "$kill" -lt "$kills" ]; do
     kill=$((kill + 1))
     kill_once 2>>"$scratch/said" # where bash tells of every process that was killed

@@ -9,6 +9,7 @@
 #include <netdb.h>
 #include <netinet/in.h>
 #include <netinet/tcp.h>
+#include <stdio.h>
 #include <stdlib.h>
 #include <string.h>
 #include <sys/socket.h>
@@ -34,14 +35,24 @@ struct plain {
     uint32_t first_burst, segment;
 };
 
+/* Where a target is, by its URL. */
+struct address {
+    char host[64], port[16], target[256];
+};
+
+static inline int is_address(struct address *a, const char *url)
+{
+    return sscanf(url, "iscsi://%63[^:]:%15[0-9]/%255[^/]/", a->host, a->port, a->target) == 3;
+}
+
 /* ---- the socket */
 
-static inline int connect_plainly(const char *host, const char *port)
+static inline int connect_plainly(const struct address *to)
 {
     struct addrinfo wish = {.ai_socktype = SOCK_STREAM}, *found;
     struct timeval patience = {.tv_sec = SECONDS_PATIENT};
     int fd = -1, at_once = 1;
-    if (getaddrinfo(host, port, &wish, &found) != 0)
+    if (getaddrinfo(to->host, to->port, &wish, &found) != 0)
         return -1;
     fd = socket(found->ai_family, SOCK_STREAM, 0);
     if (fd >= 0 && connect(fd, found->ai_addr, found->ai_addrlen) != 0) {
@@ -176,13 +187,12 @@ static inline int answer_login(struct plain *p, int waits, int sends_with_comman
 }
 
 /* Connects and logs in, with these wishes for how data is sent; false if that fails. */
-static inline int log_in(struct plain *p, const char *host, const char *port, const char *name, const char *target,
-                         int waits, int sends_with_command)
+static inline int log_in(struct plain *p, const struct address *to, const char *name, int waits, int sends_with_command)
 {
     uint8_t header[UNIT_HEADER] = {SEND_LOGIN, LOGIN_AT_ONCE, [UNIT_LUN] = 0x80, [UNIT_LUN + 5] = 1};
     char text[LOGIN_ROOM];
-    size_t length = text_of(text, name, target, waits, sends_with_command);
-    *p = (struct plain){.fd = connect_plainly(host, port), .left = UINT64_MAX, .command_number = 1, .tag = 1};
+    size_t length = text_of(text, name, to->target, waits, sends_with_command);
+    *p = (struct plain){.fd = connect_plainly(to), .left = UINT64_MAX, .command_number = 1, .tag = 1};
     if (p->fd < 0)
         return 0;
     put_number(header + UNIT_COMMAND_NUMBER, p->command_number);

@@ -1,6 +1,6 @@
 /* vanish.c: hosts that vanish in the middle of a transfer, by a farewell or a reset, at drawn places of it.
  *
- *   vanish HOST PORT TARGET CARTRIDGE TIMES SEED
+ *   vanish URL CARTRIDGE TIMES SEED
  *
  * of a drive with an empty cartridge, whose file this is. TIMES hosts begin a WRITE of 1 MiB and send part of it:
  * nothing of it stands, and position and objects are as before. As many READ a block of 1 MiB, and take part of the
@@ -18,20 +18,17 @@ static const double seconds_at_once = 1.0;
 static const uint32_t lengths[OBJECTS] = {TRANSFER, 65536, 0, TRANSFER, 3000};
 static struct known_tape tape = {.count = OBJECTS, .lengths = lengths};
 
-struct target {
-    const char *host, *port, *name;
-    char url[300];
-};
-
+static const char *url;
+static struct address address;
 static double longest_wait;
 
 /* ---- the host that comes next */
 
 /* Connects anew, finds the position and the objects, and puts the tape where the next transfer begins. */
-static int is_as_it_must(const struct target *t, uint32_t position, uint32_t next)
+static int is_as_it_must(uint32_t position, uint32_t next)
 {
     double began = seconds_now();
-    struct initiator i = connect_to("iqn.2026-11.example.stormtoggle:next", t->url);
+    struct initiator i = connect_to("iqn.2026-11.example.stormtoggle:next", url);
     struct place p = place_of(&i);
     double waited = seconds_now() - began;
     int is_right = p.condition == GOOD && p.partition == 0 && p.object == position && is_tape(&i, &tape);
@@ -46,9 +43,9 @@ static int is_as_it_must(const struct target *t, uint32_t position, uint32_t nex
 
 /* ---- the hosts that vanish */
 
-static int log_in_by_chance(struct plain *p, const struct target *t)
+static int log_in_by_chance(struct plain *p)
 {
-    return log_in(p, t->host, t->port, "iqn.2026-11.example.stormtoggle:vanishing", t->name, one_in(2), one_in(2));
+    return log_in(p, &address, "iqn.2026-11.example.stormtoggle:vanishing", one_in(2), one_in(2));
 }
 
 /* The data that the drive has not asked for, then what it asks for, until no byte is left to send. */
@@ -66,11 +63,11 @@ static void send_rest(struct plain *p, uint32_t sent, uint32_t unasked)
 }
 
 /* The whole is longer than a MiB, by its headers: what is sent is less than all of it. */
-static int write_in_part(const struct target *t)
+static int write_in_part(void)
 {
     const uint8_t command[SIX] = {WRITE, 0, THREE_BYTES(TRANSFER), 0};
     struct plain p;
-    if (!log_in_by_chance(&p, t))
+    if (!log_in_by_chance(&p))
         return 0;
     uint32_t burst = p.first_burst < TRANSFER ? p.first_burst : TRANSFER;
     uint32_t with_command = !p.sends_with_command ? 0 : burst < p.segment ? burst : p.segment;
@@ -85,11 +82,11 @@ static int write_in_part(const struct target *t)
     return is_cut;
 }
 
-static int read_in_part(const struct target *t)
+static int read_in_part(void)
 {
     const uint8_t command[SIX] = {READ, SILI, THREE_BYTES(TRANSFER), 0};
     struct plain p;
-    if (!log_in_by_chance(&p, t))
+    if (!log_in_by_chance(&p))
         return 0;
     size_t taken = 1 + (one_in(4) ? draw(100) : draw(TRANSFER));
     int is_taken = send_command(&p, IS_READ | IS_FINAL, 0, command, SIX, TRANSFER, NULL, 0) &&
@@ -110,22 +107,22 @@ static int has_failed(int holds, const char *what, int time)
 /* What vanishes, where it can begin, and how far it moves the tape. */
 struct way {
     const char *name, *held;
-    int (*transfer)(const struct target *);
+    int (*transfer)(void);
     uint32_t places[OBJECTS + 1];
     uint32_t place_count, moved;
 };
 
-static void vanish_by(const struct target *t, const struct way *w, int times)
+static void vanish_by(const struct way *w, int times)
 {
     uint32_t position = w->places[0], next;
     int done = 0;
     longest_wait = 0;
-    if (has_failed(is_as_it_must(t, OBJECTS, position), "the tape before any host vanishes", 0))
+    if (has_failed(is_as_it_must(OBJECTS, position), "the tape before any host vanishes", 0))
         return;
     for (; done < times; done++, position = next) {
         next = done + 1 < times ? w->places[draw(w->place_count)] : OBJECTS;
-        if (has_failed(w->transfer(t), "a host that begins a transfer is not heard", done) ||
-            has_failed(is_as_it_must(t, position + w->moved, next), w->name, done))
+        if (has_failed(w->transfer(), "a host that begins a transfer is not heard", done) ||
+            has_failed(is_as_it_must(position + w->moved, next), w->name, done))
             return;
     }
     verdict(1, "%d hosts vanished in a %s of 1 MiB: %s, and the objects are as before", done, w->name, w->held);
@@ -140,21 +137,19 @@ static const struct way reading = {"READ", "it was carried out, the position is 
 
 int main(int count, char **arguments)
 {
-    if (count != 7) {
-        fputs("vanish HOST PORT TARGET CARTRIDGE TIMES SEED: hosts that vanish in the middle of a transfer\n", stderr);
+    if (count != 5 || !is_address(&address, arguments[1])) {
+        fputs("vanish URL CARTRIDGE TIMES SEED: hosts that vanish in the middle of a transfer\n", stderr);
         return 2;
     }
-    struct target t = {.host = arguments[1], .port = arguments[2], .name = arguments[3]};
-    int times = atoi(arguments[5]);
-    snprintf(t.url, sizeof t.url, "iscsi://%s:%s/%s/0", t.host, t.port, t.name);
-    random_state = seed = strtoull(arguments[6], NULL, 10);
-    struct initiator i = connect_to("iqn.2026-11.example.stormtoggle:first", t.url);
-    tape.seed = seed;
+    int times = atoi(arguments[3]);
+    url = arguments[1];
+    tape.seed = random_state = seed = strtoull(arguments[4], NULL, 10);
+    struct initiator i = connect_to("iqn.2026-11.example.stormtoggle:first", url);
     verdict(put_tape(&i, &tape), "a tape of %d objects, all final", OBJECTS);
     disconnect(&i);
-    uint64_t sum = sum_of_file(arguments[4]);
-    vanish_by(&t, &writing, times);
-    vanish_by(&t, &reading, times);
-    expect_same_file(arguments[4], sum);
+    uint64_t sum = sum_of_file(arguments[2]);
+    vanish_by(&writing, times);
+    vanish_by(&reading, times);
+    expect_same_file(arguments[2], sum);
     return failures > 0;
 }
