@@ -201,7 +201,7 @@ static int act_by_chance(void)
         return go_back() && perform((struct act){.kind = WIPE, .first = one_in(4)});
     if (chance < 98)
         return change_partition();
-    return chance == 98 ? reload() : 1;
+    return reload() && go_back();
 }
 
 /* ---- */
