@@ -172,6 +172,7 @@ static double all_at_once(void *(*what)(void *))
     for (int i = 0; i < HOSTS; i++) {
         hosts[i].answers = 0;
         hosts[i].bytes = 0;
+        hosts[i].wrong = 0;
         if (pthread_create(&hosts[i].thread, NULL, what, &hosts[i]) != 0)
             give_up("a thread", "cannot be started");
     }
