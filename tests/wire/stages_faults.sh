@@ -92,10 +92,19 @@ judge_daemon() { # PROCESS
     judge $? "the daemon is the process that it was, with ${threads:-no} threads and at most $(number_of "$1" VmHWM) kB"
 }
 
+# Garbage that the transport keeps to itself would try the daemon little.
+judge_reach() { # FILE
+    local commands
+    commands=$(grep -c '5/25/00 by the daemon' "$1")
+    [ "$commands" -ge 50 ]
+    judge $? "of the garbage, $commands commands for units that are not there came to the daemon"
+}
+
 garbage_stage() {
     local status=0 daemon
     build_wire garbage garbage_local && start_blank garbage 64M && daemon=$(find_daemon) || return 1
     run_fault garbage "$url" "$cartridge" 400 || status=1
+    judge_reach "$accepted/garbage.log" || status=1
     run_fault garbage_local "$(socket_of "$daemon")" 2000 || status=1
     judge_daemon "$daemon" || status=1
     echo "    the transport fell $(grep -c 'the transport fell' "$accepted/garbage.serve") times, and was started again"

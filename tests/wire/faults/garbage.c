@@ -14,13 +14,14 @@
 #include <draw.h>
 #include <sys/wait.h>
 
-enum { OBJECTS = 4, PLACE = 2, MOST_GARBAGE = 65536, SILENT = 8, ROUNDS_A_CHECK = 10, TENTHS_TO_WAIT = 150 };
+enum { OBJECTS = 4, PLACE = 2, MOST_GARBAGE = 65536, PADDING = 4, SILENT = 8 };
+enum { ROUNDS_A_CHECK = 10, TENTHS_TO_WAIT = 150 };
 static const uint32_t lengths[OBJECTS] = {70000, 1, 0, LARGEST_BLOCK};
 static struct known_tape tape = {.count = OBJECTS, .lengths = lengths};
 
 static const char *url;
 static struct address address;
-static uint8_t garbage[MOST_GARBAGE];
+static uint8_t garbage[MOST_GARBAGE + PADDING];
 static int silent[SILENT], waits;
 
 /* ---- the right host, in a process of its own: it may find no transport, and then comes again */
@@ -132,9 +133,9 @@ static int changes_something(uint8_t operation)
 }
 
 /* The tape's own unit is 0, in whichever of the ways that a unit number is written. */
-static int is_own_unit(const uint8_t *lun)
+static int may_be_own_unit(const uint8_t *lun)
 {
-    return (lun[0] & 0x3f) == 0 && lun[1] == 0;
+    return lun[1] == 0;
 }
 
 static void draw_command(uint8_t *header)
@@ -146,17 +147,23 @@ static void draw_command(uint8_t *header)
         command[0] = known[draw(sizeof known)];
     if (one_in(2))
         memset(header + UNIT_LUN, 0, 8);
-    while (is_own_unit(header + UNIT_LUN) && changes_something(command[0]))
+    while (may_be_own_unit(header + UNIT_LUN) && changes_something(command[0]))
         command[0] = (uint8_t)draw(256);
 }
 
-/* A header at random, of an operation code that a target knows in most cases, in the right order in half of them. */
-static void draw_unit(struct plain *p, uint8_t *header)
+/* What a unit is to be followed by: what it claims, and what comes. */
+struct data_of_unit {
+    uint32_t claimed, follows;
+};
+
+/* A header at random, of an operation code that a target knows in most cases, in the right order in half of them. It
+ * claims up to 16 MiB of data; what follows is mostly less, and the next header is then part of it. */
+static struct data_of_unit draw_unit(struct plain *p, uint8_t *header)
 {
     static const uint8_t codes[] = {SEND_COMMAND, SEND_COMMAND, SEND_COMMAND, SEND_DATA, 0x00 /* NOP */,
                                     0x02 /* task management */, SEND_LOGIN, 0x04 /* text */, 0x06 /* logout */,
                                     0x10 /* SNACK */};
-    draw_garbage(header, UNIT_HEADER);
+    uint32_t claimed = one_in(3) ? draw(1 << 24) : one_in(2) ? draw(2000) : 0;
     if (!one_in(8))
         header[0] = codes[draw(sizeof codes)] | (one_in(4) ? 0x40 : 0);
     if (one_in(2))
@@ -167,24 +174,41 @@ static void draw_unit(struct plain *p, uint8_t *header)
         put_number(header + UNIT_FIELD, draw(MOST_GARBAGE));
     if ((header[0] & 0x3f) == SEND_COMMAND)
         draw_command(header);
+    return (struct data_of_unit){claimed, claimed < MOST_GARBAGE ? claimed : draw(MOST_GARBAGE)};
 }
 
-/* The header claims up to 16 MiB of data; what follows is mostly less, and the next header is then part of it. */
+/* A command as a host sends it, with data or the wish for some; only what it asks for makes no sense, and its length
+ * may be up to 4 GiB. So it comes to the daemon. */
+static struct data_of_unit draw_senseless_command(struct plain *p, uint8_t *header)
+{
+    uint32_t sent = one_in(3) ? 1 + draw(2000) : 0;
+    header[0] = SEND_COMMAND;
+    header[UNIT_FLAGS] = IS_FINAL | (sent > 0 ? IS_WRITE : one_in(3) ? 0 : IS_READ);
+    header[4] = 0;
+    put_number(header + UNIT_TAG, ++p->tag);
+    put_number(header + UNIT_FIELD, sent > 0 ? sent : one_in(4) ? (uint32_t)draw_64() : draw(MOST_GARBAGE));
+    put_number(header + UNIT_COMMAND_NUMBER, p->command_number++);
+    draw_command(header);
+    return (struct data_of_unit){sent, sent};
+}
+
+static int send_a_unit(struct plain *p)
+{
+    uint8_t header[UNIT_HEADER];
+    draw_garbage(header, sizeof header);
+    struct data_of_unit data = one_in(6) ? draw_unit(p, header) : draw_senseless_command(p, header);
+    memcpy(header + UNIT_DATA_LENGTH, (uint8_t[]){THREE_BYTES(data.claimed)}, 3);
+    memset(garbage, one_in(2) ? 0 : 0xff, padded(data.follows));
+    return send_plainly(p, header, sizeof header) && send_plainly(p, garbage, padded(data.follows));
+}
+
 static void send_units(void)
 {
     struct plain p;
     if (!log_in_to_disturb(&p))
         return;
-    for (int count = 1 + (int)draw(8); count > 0; count--) {
-        uint8_t header[UNIT_HEADER];
-        draw_unit(&p, header);
-        uint32_t claimed = one_in(3) ? draw(1 << 24) : one_in(2) ? draw(2000) : 0;
-        uint32_t follows = claimed < MOST_GARBAGE ? claimed : draw(MOST_GARBAGE);
-        memcpy(header + UNIT_DATA_LENGTH, (uint8_t[]){THREE_BYTES(claimed)}, 3);
-        memset(garbage, one_in(2) ? 0 : 0xff, follows);
-        if (!send_plainly(&p, header, sizeof header) || !send_plainly(&p, garbage, padded(follows)))
-            break;
-    }
+    for (int count = 1 + (int)draw(12); count > 0 && send_a_unit(&p); count--)
+        ;
     close_after_answer(p.fd);
 }
 
