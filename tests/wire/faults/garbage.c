@@ -125,11 +125,14 @@ static int log_in_to_disturb(struct plain *p)
 }
 
 /* Commands that move or write, or that a later one would meet: not for the tape's own unit. */
+static const uint8_t changing[] = {REWIND, READ, WRITE, WRITE_FILEMARKS, SPACE, MODE_SELECT, ERASE, LOAD_UNLOAD,
+                                   LOCATE, SPACE_16, LOCATE_16, 0x1e /* PREVENT ALLOW */};
+static const uint8_t asking[] = {TEST_UNIT_READY, REQUEST_SENSE, READ_BLOCK_LIMITS, INQUIRY, MODE_SENSE,
+                                 READ_POSITION, 0xa0 /* REPORT LUNS */};
+
 static int changes_something(uint8_t operation)
 {
-    static const uint8_t those[] = {REWIND, READ, WRITE, WRITE_FILEMARKS, SPACE, MODE_SELECT, ERASE, LOAD_UNLOAD,
-                                    LOCATE, SPACE_16, LOCATE_16, 0x1e /* PREVENT ALLOW */};
-    return memchr(those, operation, sizeof those) != NULL;
+    return memchr(changing, operation, sizeof changing) != NULL;
 }
 
 /* The tape's own unit is 0, in whichever of the ways that a unit number is written. */
@@ -138,15 +141,18 @@ static int may_be_own_unit(const uint8_t *lun)
     return lun[1] == 0;
 }
 
-static void draw_command(uint8_t *header)
+/* The command block of a header that was drawn; in half of them without a bit that is a field error, so that it would
+ * be carried out if it came to the tape. */
+static void draw_command(uint8_t *header, uint32_t length)
 {
-    static const uint8_t known[] = {TEST_UNIT_READY, REQUEST_SENSE, READ_BLOCK_LIMITS, INQUIRY, MODE_SENSE,
-                                    READ_POSITION, 0xa0 /* REPORT LUNS */, READ, WRITE, MODE_SELECT};
+    const uint8_t plain[SIXTEEN] = {0, 0, THREE_BYTES(length)};
     uint8_t *command = header + UNIT_COMMAND;
     if (one_in(2))
-        command[0] = known[draw(sizeof known)];
-    if (one_in(2))
         memset(header + UNIT_LUN, 0, 8);
+    if (one_in(2))
+        memcpy(command, plain, sizeof plain);
+    if (!one_in(4))
+        command[0] = one_in(2) ? asking[draw(sizeof asking)] : changing[draw(sizeof changing)];
     while (may_be_own_unit(header + UNIT_LUN) && changes_something(command[0]))
         command[0] = (uint8_t)draw(256);
 }
@@ -173,7 +179,7 @@ static struct data_of_unit draw_unit(struct plain *p, uint8_t *header)
     if (one_in(2))
         put_number(header + UNIT_FIELD, draw(MOST_GARBAGE));
     if ((header[0] & 0x3f) == SEND_COMMAND)
-        draw_command(header);
+        draw_command(header, claimed);
     return (struct data_of_unit){claimed, claimed < MOST_GARBAGE ? claimed : draw(MOST_GARBAGE)};
 }
 
@@ -188,7 +194,7 @@ static struct data_of_unit draw_senseless_command(struct plain *p, uint8_t *head
     put_number(header + UNIT_TAG, ++p->tag);
     put_number(header + UNIT_FIELD, sent > 0 ? sent : one_in(4) ? (uint32_t)draw_64() : draw(MOST_GARBAGE));
     put_number(header + UNIT_COMMAND_NUMBER, p->command_number++);
-    draw_command(header);
+    draw_command(header, sent);
     return (struct data_of_unit){sent, sent};
 }
 
