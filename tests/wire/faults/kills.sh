@@ -55,6 +55,7 @@ kill_once() {
     [ $((kill % 10)) -gt 0 ] || victims+=("$tgtd")
     timeout 60 "$wire/kills_write" "iscsi://127.0.0.1:$port/$target_name/0" "$scratch/state" "$scratch/journal" \
         "$seed" "$kill" "$within" "${victims[@]}" >"$scratch/writer" 2>&1 || fail "$(cat "$scratch/writer")"
+    cat "$scratch/writer" >>"$scratch/over-wire"
     await "$daemon"
     [ $? -eq 137 ] || fail "the daemon ended by itself"
     cat "$scratch/journal" >>"$scratch/journals"
@@ -66,20 +67,24 @@ kill_once() {
     mounted=$((mounted + 1))
 }
 
+# How often each word stands in these fields of the tally.
+times_of() { # FIELDS
+    cut -d ' ' -f "$1" "$scratch/tally" | sort | uniq -c | sort -rn |
+        awk '{ times = $1; sub(/^ *[0-9]+ /, ""); printf "%s%s %d", between, $0, times; between = ", " }'
+}
+
+sum_of() { # FIELD FILE
+    awk -v field="$1" '{ sum += $field } END { printf "%d", sum }' "$2"
+}
+
 say_tally() {
     local commands
     commands=$(grep -c ' [anx]' "$scratch/journals")
-    awk -v commands="$commands" -v kills="$kills" -v mounted="$mounted" -v torn="$torn" -v seconds="$SECONDS" '
-        { fell[$1]++; held[$2 ", " $3]++; objects += $4; bytes += $5 }
-        END {
-            printf "    %d kills in %d s: %d mounted, %d torn; ", kills, seconds, mounted, torn
-            printf "%d objects and %.1f GB compared in the files, after %d commands\n", objects, bytes / 1e9, commands
-            printf "    the kills fell into:"
-            for (kind in fell) printf " %s %d;", kind, fell[kind]
-            printf "\n    the two files then held:"
-            for (pair in held) printf " %s %d;", pair, held[pair]
-            printf "\n"
-        }' "$scratch/tally"
+    echo "    $kills kills in $SECONDS s: $mounted mounted, $torn torn, after $commands commands"
+    echo "    compared in the files: $(sum_of 4 "$scratch/tally") objects, $(sum_of 5 "$scratch/tally") bytes"
+    echo "    compared over the wire: $(sum_of 1 "$scratch/over-wire") objects, $(sum_of 2 "$scratch/over-wire") bytes"
+    echo "    the kills fell into: $(times_of 1)"
+    echo "    the partitions then held what was final before, that up to a cut, or what is final now: $(times_of 2,3)"
 }
 
 build_drive >&2 && build_wire kills_write && build_over_library kills_judge || exit 1

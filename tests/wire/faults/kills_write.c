@@ -5,7 +5,7 @@
  * First it compares, over the wire, that the drive has mounted what the state tells. Then it writes, marks, goes back
  * and overwrites, erases, changes the partition and unloads, at random by the seed and the kill's number, and keeps the
  * journal. Within so many microseconds it sends SIGKILL to the processes. Exit status: 0 if the daemon fell and all
- * answers before that were right, 1 if not. */
+ * answers before that were right, 1 if not. Prints how many objects it compared, and how many bytes they have. */
 #define _POSIX_C_SOURCE 200809L
 #include "model.h"
 #include "tape.h"
@@ -17,12 +17,13 @@
 
 /* Of so many objects at the end of each partition the bytes are compared over the wire. (Those of all objects are
  * compared in the files.) The writer keeps so far from a partition's end that every answer is GOOD. */
-enum { READ_BACK = 6, MOST_COMMANDS = 200000, MOST_KILLED = 4 };
+enum { READ_BACK = 40, MOST_COMMANDS = 200000, MOST_KILLED = 4 };
 static const uint64_t room_used[PARTITIONS] = {56 << 20, 12 << 20};
 
 static struct model model;
 static struct initiator host;
 static int journal;
+static uint64_t objects_compared, bytes_compared;
 
 /* ---- the mount, over the wire */
 
@@ -42,9 +43,12 @@ static int is_found(uint8_t partition)
     r = locate(&host, partition, from);
     if (condition(&r) != GOOD)
         return 0;
-    for (uint32_t i = from; i < t->count; i++)
+    for (uint32_t i = from; i < t->count; i++) {
         if (!reads_as(&host, seed, t->objects[i].number, t->objects[i].length))
             return 0;
+        objects_compared++;
+        bytes_compared += t->objects[i].length;
+    }
     return is_at(partition, t->count);
 }
 
@@ -236,5 +240,6 @@ int main(int count, char **arguments)
     for (long i = 0; is_alive && i < MOST_COMMANDS; i++)
         is_alive = act_by_chance();
     pthread_join(thread, NULL);
+    printf("%" PRIu64 " %" PRIu64 "\n", objects_compared, bytes_compared);
     return failures > 0 || is_alive;
 }
