@@ -7,9 +7,11 @@ passed=0 failed=0
 
 # ---- a drive
 
+# Drawn, so that two that look at the same time do not find the same.
 free_port() {
     local port
-    for port in {20000..29999}; do
+    for _ in {1..100}; do
+        port=$((20000 + RANDOM % 10000))
         (exec 3<>"/dev/tcp/127.0.0.1/$port") 2>/dev/null || break
     done
     echo "$port"
@@ -52,6 +54,20 @@ stop_drive() { # NAME
     return "$status"
 }
 
+# The daemon is that child of serve which has a socket.
+find_daemon() {
+    local process processes
+    read -r -a processes <"/proc/$drive/task/$drive/children"
+    for process in "${processes[@]}"; do
+        [ -z "$(socket_of "$process")" ] || { echo "$process" && return; }
+    done
+    return 1
+}
+
+socket_of() { # PROCESS
+    tr '\0' '\n' <"/proc/$1/cmdline" | sed -n '/^--socket$/{n;p;}'
+}
+
 # A stage on a drive of its own: words for serve, then --, then the command, which is given the drive's address.
 on_drive() { # NAME SERVE-WORD... -- COMMAND...
     local name=$1 words=() status=0
@@ -70,6 +86,11 @@ is_wanted() { # NAME
     [ "${#wanted[@]}" -eq 0 ] || [[ " ${wanted[*]} " == *" $1 "* ]]
 }
 
+# The first lines of what fails do.
+shorten() {
+    awk '!/^FAILED/ || ++failed <= 20; END { if (failed > 20) print "... and", failed - 20, "more lines of FAILED" }'
+}
+
 # Runs a stage: of what it says, the checks that hold are counted, and all else is shown, or with show=1 all of it. Its
 # whole output is kept.
 stage() { # NAME WHAT COMMAND...
@@ -80,7 +101,7 @@ stage() { # NAME WHAT COMMAND...
     checks=$(grep -c '^ok: ' "$file")
     ! grep -q '^FAILED' "$file" || status=1
     [ "$checks" -gt 0 ] || status=1
-    if [ -n "${show-}" ]; then cat "$file"; else grep -v '^ok: ' "$file"; fi | sed 's/^/    /'
+    if [ -n "${show-}" ]; then cat "$file"; else grep -v '^ok: ' "$file" | shorten; fi | sed 's/^/    /'
     if [ "$status" -eq 0 ]; then
         passed=$((passed + 1))
         echo "    passed: $checks checks, $((SECONDS - began)) s"

@@ -26,20 +26,6 @@ stop_blank() { # NAME
     judge "$status" "the drive stopped by a signal"
 }
 
-# The daemon is that child of serve which has a socket.
-find_daemon() {
-    local process processes
-    read -r -a processes <"/proc/$drive/task/$drive/children"
-    for process in "${processes[@]}"; do
-        [ -z "$(socket_of "$process")" ] || { echo "$process" && return; }
-    done
-    return 1
-}
-
-socket_of() { # PROCESS
-    tr '\0' '\n' <"/proc/$1/cmdline" | sed -n '/^--socket$/{n;p;}'
-}
-
 # A program that hangs is a failed check.
 run_fault() { # PROGRAM ARGUMENT...
     local status=0

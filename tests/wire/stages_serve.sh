@@ -64,10 +64,9 @@ while_served() { # CARTRIDGE
     tell "there are two processes" test "$(children | wc -l)" -eq 2
     [ "$(id -u)" -ne 0 ] || tell "none of them is root" none_is_root
     tell "the loopback alone is listened on" test "$(listens_on "$(port_of)")" = "0100007F:$(printf %04X "$(port_of)")"
-    tell "the socket is the user's alone" test "$(stat -c %a "$(socket_of)")" = 600
+    tell "the socket is the user's alone" test "$(stat -c %a "$(socket_of "$(find_daemon)")")" = 600
     stop_drive serve-busy
 }
-socket_of() { tr '\0' '\n' <"/proc/$(children | head -n 1)/cmdline" | sed -n '/^--socket$/{n;p}'; }
 
 # A protected cartridge, and one whose file may only be read, are read and not written.
 not_to_be_written() { # CARTRIDGE BLOCKS

@@ -5,17 +5,12 @@
 
 guest=$(cd "$(dirname "${BASH_SOURCE[0]}")" && pwd)
 
-# What make and run need, and is not installed.
-missing_for_guest() {
-    local package packages=(busybox-static mt-st tar sg3-utils bacula-sd cpio kmod gcc libc6-dev qemu-block-extra)
-    case $(uname -m) in
-    x86_64) packages+=(linux-image-cloud-amd64 qemu-system-x86) ;;
-    *) packages+=(linux-image-cloud-arm64 qemu-system-arm) ;;
-    esac
-    for package in "${packages[@]}"; do
-        [[ $(dpkg-query -W -f '${db:Status-Abbrev}' "$package" 2>/dev/null) == ii* ]] || echo "$package"
-    done
-}
+# The packages that make and run need.
+guest_packages=(busybox-static mt-st tar sg3-utils bacula-sd cpio kmod gcc libc6-dev qemu-block-extra)
+case $(uname -m) in
+x86_64) guest_packages+=(linux-image-cloud-amd64 qemu-system-x86) ;;
+*) guest_packages+=(linux-image-cloud-arm64 qemu-system-arm) ;;
+esac
 
 guest_make() { # FOLDER
     timeout 120 "$guest/make" "$1"
