@@ -80,7 +80,7 @@ sense_of() { # SG_RAW-WORD...
 answer_btape() { # CONFIGURATION ANSWER...
     configuration=$1
     shift
-    { printf '%s\n' "$@" | timeout 150 btape -c "$configuration" "$tape" 2>&1; echo $? >/tmp/status; } |
+    { printf '%s\n' "$@" | timeout 500 btape -c "$configuration" "$tape" 2>&1; echo $? >/tmp/status; } |
         sed 's/^[0-9]*-[A-Z][a-z][a-z] [0-9:]* //' | tee /tmp/btape | grep '^=== [A-Z]'
 }
 

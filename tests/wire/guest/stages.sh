@@ -45,17 +45,17 @@ fill_words() { # PARTITION-LENGTH BLOCK-LENGTH
 
 # 1 MiB, one partition.
 guest_mt() { # FOLDER URL
-    guest_step 120 "$1" "$2" mt
+    guest_step 300 "$1" "$2" mt
 }
 
 # 1 MiB, two partitions.
 guest_two_partitions() { # FOLDER URL
-    guest_step 60 "$1" "$2" two_partitions
+    guest_step 300 "$1" "$2" two_partitions
 }
 
 # 32 MiB, one partition.
 guest_dd_tar() { # FOLDER URL
-    guest_step 120 "$1" "$2" dd_tar
+    guest_step 300 "$1" "$2" dd_tar
 }
 
 # 16 MiB, one partition. Blocks of 4,096 bytes fill it to the last byte, so that no filemark fits behind them.
@@ -65,27 +65,27 @@ guest_fill() { # FOLDER URL
         read -r -a four < <(fill_words $((16 << 20)) "$length")
         words+=("${four[@]}")
     done
-    guest_step 120 "$1" "$2" fill 3 "${words[@]}"
+    guest_step 300 "$1" "$2" fill 3 "${words[@]}"
 }
 
 # 1 MiB, one partition; then the drive is stopped, the cartridge protected, and served again for the next one.
 guest_protected_before() { # FOLDER URL
-    guest_step 60 "$1" "$2" protected before
+    guest_step 300 "$1" "$2" protected before
 }
 
 # That cartridge, protected.
 guest_protected_after() { # FOLDER URL
-    guest_step 60 "$1" "$2" protected after
+    guest_step 300 "$1" "$2" protected after
 }
 
 # 256 MiB, one partition.
 guest_btape_test() { # FOLDER URL
-    guest_step 180 "$1" "$2" btape_test
+    guest_step 600 "$1" "$2" btape_test
 }
 
 # 400 MiB, one partition. In front of the blocks stand the label, a block as well, and a filemark.
 guest_btape_fill() { # FOLDER URL
-    guest_step 180 "$1" "$2" btape_fill "$(blocks_to_warning $((400 << 20)) 64512 $((64512 + 4 + 4)))"
+    guest_step 600 "$1" "$2" btape_fill "$(blocks_to_warning $((400 << 20)) 64512 $((64512 + 4 + 4)))"
 }
 
 # No drive of ours: the same step on another's, whose appending is wrong, must fail in btape's own words. So the step
@@ -94,7 +94,7 @@ guest_btape_fill() { # FOLDER URL
 guest_peer() { # FOLDER PORT
     local said status=0 failed=0 reread="ok: the number of lines '10000 blocks re-read correctly.' is 2"
     echo "btape test is run on the tape that Debian's tgt has, and must fail ..."
-    said=$(GUEST_SECONDS=180 "$guest/peer" "$2" "$1" "$guest/steps/btape_test.sh" 2>&1) || status=$?
+    said=$(GUEST_SECONDS=600 "$guest/peer" "$2" "$1" "$guest/steps/btape_test.sh" 2>&1) || status=$?
     peer_must 'the step fails on it' test "$status" -eq 1
     peer_must 'and yet blocks are re-read' grep -q -x -F "$reread"
     peer_must 'btape says that appending failed' grep -q -x -F '| Append test failed.'
