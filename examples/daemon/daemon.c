@@ -227,12 +227,14 @@ static int drop_root(const struct passwd *user)
 
 /* ---- the life of it */
 
-/* Holds the lock to the end: the command under way is finished, and no other begins. */
+/* Holds the lock to the end: the command under way is finished, and no other begins. The socket goes exactly if all is
+ * final, for whoever does not learn the exit status. */
 static int stop(struct drive *d, const char *socket)
 {
     pthread_mutex_lock(&d->lock);
     int is_final = make_all_final(d);
-    unlink(socket);
+    if (is_final)
+        unlink(socket);
     fprintf(d->log, "stopped: what stands is %s\n", is_final ? "final" : "NOT FINAL");
     fflush(d->log);
     return is_final ? DONE : SYSTEM_REFUSED;

@@ -47,14 +47,15 @@ static inline void add_trip(struct plan *plan, struct trip trip)
 
 /* One SPACE, and on to the end of data. */
 static inline void add_single(struct plan *plan, const char *why, uint32_t from, int is_long, enum space_code code,
-                       int64_t count)
+                              int64_t count)
 {
     add_trip(plan, (struct trip){.why = why, .from = from, .is_long = is_long, .code = code, .count = count,
                                  .reads_on = 1, .end = plan->run.count});
 }
 
 /* SPACE over blocks again and again by what is left, until all are counted: each filemark on the way is told. */
-static inline void add_series(struct plan *plan, const char *why, uint32_t from, uint32_t end, int is_long, int64_t count)
+static inline void add_series(struct plan *plan, const char *why, uint32_t from, uint32_t end, int is_long,
+                              int64_t count)
 {
     struct trip trip = {.why = why, .from = from, .is_long = is_long, .code = BLOCKS, .count = count, .end = end};
     for (;;) {
