@@ -54,13 +54,14 @@ kill_once() {
     local victims=("$daemon")
     [ $((kill % 10)) -gt 0 ] || victims+=("$tgtd")
     timeout 60 "$wire/kills_write" "iscsi://127.0.0.1:$port/$target_name/0" "$scratch/state" "$scratch/journal" \
-        "$seed" "$kill" "$within" "${victims[@]}" >"$scratch/writer" 2>&1 || fail "$(cat "$scratch/writer")"
+        "$seed" "$kill" "$within" "${victims[@]}" >"$scratch/writer" 2>&1 ||
+        fail "the writer ended with status $?: $(cat "$scratch/writer")"
     cat "$scratch/writer" >>"$scratch/over-wire"
     await "$daemon"
     [ $? -eq 137 ] || fail "the daemon ended by itself"
     cat "$scratch/journal" >>"$scratch/journals"
     "${runner[@]}" "$wire/kills_judge" "$scratch/state" "$scratch/journal" "$seed" "$scratch/first" "$scratch/second" \
-        >"$scratch/judged" || fail "$(cat "$scratch/judged")"
+        >"$scratch/judged" || fail "$(sed 's/^FAILED: //' "$scratch/judged")"
     cat "$scratch/judged" >>"$scratch/tally"
     [ ${#victims[@]} -eq 1 ] || { await "$tgtd" || true; start_transport; }
     start_again

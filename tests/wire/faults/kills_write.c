@@ -229,6 +229,7 @@ int main(int count, char **arguments)
         fputs("kills_write URL STATE JOURNAL SEED KILL WITHIN PROCESS...: writes until it has killed these\n", stderr);
         return 2;
     }
+    signal(SIGPIPE, SIG_IGN); /* the transport may fall while a command is sent to it */
     journal = open(arguments[3], O_WRONLY | O_CREAT | O_TRUNC | O_APPEND, 0600);
     if (journal < 0)
         give_up(arguments[3], "cannot be written");
