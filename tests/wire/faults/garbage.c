@@ -12,6 +12,7 @@
 #include "plain.h"
 #include "tape.h"
 #include <draw.h>
+#include <signal.h>
 #include <sys/wait.h>
 
 enum { OBJECTS = 4, PLACE = 2, MOST_GARBAGE = 65536, PADDING = 4, SILENT = 8 };
@@ -26,28 +27,38 @@ static int silent[SILENT], waits;
 
 /* ---- the right host, in a process of its own: it may find no transport, and then comes again */
 
-enum { SAME = 0, OTHER = 3 };
+/* The transport may fall under the right host, too, by what garbage left in it; the tape is then where that host had
+ * moved it. */
+enum { SAME = 0, OTHER = 3, MOVED = 4 };
+static int has_moved;
 
-static int is_as_before(const struct initiator *i)
+static int is_at_place(const struct initiator *i)
 {
     struct place p = place_of(i);
-    if (p.condition == NOT_ANSWERED)
-        exit(EXIT_FAILURE);
-    int is_same = p.condition == GOOD && p.partition == 0 && p.object == PLACE && is_tape(i, &tape);
-    struct reply r = locate(i, 0, PLACE);
-    return is_same && condition(&r) == GOOD;
+    return p.condition == GOOD && p.partition == 0 && (p.object == PLACE || has_moved);
 }
 
-static int check_once(void)
+static int compare(void)
+{
+    struct initiator i = connect_to("iqn.2026-11.example.stormtoggle:right", url);
+    if (!is_at_place(&i))
+        return has_lost_answers ? EXIT_FAILURE : OTHER;
+    if (!is_tape(&i, &tape))
+        return has_lost_answers ? MOVED : OTHER;
+    struct reply r = locate(&i, 0, PLACE);
+    return condition(&r) == GOOD ? SAME : has_lost_answers ? MOVED : OTHER;
+}
+
+static int compare_in_child(void)
 {
     int status;
     fflush(stdout);
     pid_t child = fork();
     if (child == 0) {
+        signal(SIGPIPE, SIG_IGN);
         if (freopen("/dev/null", "w", stderr) == NULL) /* that there is no transport yet is no news */
             _exit(EXIT_FAILURE);
-        struct initiator i = connect_to("iqn.2026-11.example.stormtoggle:right", url);
-        _exit(is_as_before(&i) ? SAME : OTHER);
+        _exit(compare());
     }
     if (child < 0 || waitpid(child, &status, 0) != child || !WIFEXITED(status))
         return EXIT_FAILURE;
@@ -63,9 +74,10 @@ static void wait_a_tenth(void)
 static int check_tape(int round)
 {
     int found = EXIT_FAILURE;
-    for (int tenths = 0; tenths < TENTHS_TO_WAIT && found == EXIT_FAILURE; tenths++) {
-        found = check_once();
-        if (found == EXIT_FAILURE)
+    for (int tenths = 0; tenths < TENTHS_TO_WAIT && found != SAME && found != OTHER; tenths++) {
+        found = compare_in_child();
+        has_moved = found == MOVED || (has_moved && found == EXIT_FAILURE);
+        if (found != SAME && found != OTHER)
             wait_a_tenth();
     }
     if (found == SAME)

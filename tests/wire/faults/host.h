@@ -21,13 +21,17 @@ enum { ABORTED_COMMAND = 0xb, INQUIRY = 0x12 };
 #define NO_DAEMON ((uint32_t)CONDITION(NOT_READY, 0x0401))
 #define DAEMON_FELL ((uint32_t)CONDITION(ABORTED_COMMAND, 0x0800))
 
+/* Whether ever a command got no whole answer. */
+static int has_lost_answers;
+
 static inline uint32_t condition(const struct reply *r)
 {
     if (r->status == SCSI_STATUS_GOOD)
         return GOOD;
-    if (r->status != SCSI_STATUS_CHECK_CONDITION || r->sense_length < STORMTOGGLE_SENSE_LENGTH)
-        return NOT_ANSWERED;
-    return condition_of(sense_in_fixed_form(r->sense));
+    if (r->status == SCSI_STATUS_CHECK_CONDITION && r->sense_length >= STORMTOGGLE_SENSE_LENGTH)
+        return condition_of(sense_in_fixed_form(r->sense));
+    has_lost_answers = 1;
+    return NOT_ANSWERED;
 }
 
 /* ---- checks, a line each */
