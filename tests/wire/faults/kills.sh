@@ -103,6 +103,6 @@ done
 say_tally
 in_writing=$(grep -c '^WRITE\|^ERASE\|^UNLOAD' "$scratch/tally")
 [ $((in_writing * 3)) -ge "$kills" ] || fail "only $in_writing kills fell into a command that writes"
-echo "ok: $kills kills, $in_writing of them in the middle of a command that writes or makes final: all mounted, and" \
-    "held what was final, exactly"
+echo "ok: $kills kills, $in_writing of them while a command that writes or makes final was unanswered: all mounted," \
+    "and held what was final, exactly"
 end 0
