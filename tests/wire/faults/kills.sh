@@ -26,9 +26,7 @@ fail() { # WHY
     end 1
 }
 
-# A socket that a killed daemon left would look like one that is listened on.
 start_again() {
-    rm -f "$run_folder/drive"
     start_daemon --user nobody --log "$scratch/daemon.log" "$scratch/first" "$scratch/second" >>"$scratch/said" 2>&1
     kill -0 "$daemon" 2>/dev/null && return
     await "$daemon"
