@@ -1,5 +1,5 @@
 /* worked.c: worked command blocks: what a daemon hands to stormtoggle_command and what it gets back, to the byte, on a
- * cartridge of 64 bytes. docs/DAEMON.md has what this prints, and tests/worked.sh holds the two together. */
+ * cartridge of 64 bytes. docs/DAEMON.md has what this prints, and tests/daemon/worked.sh holds the two together. */
 #include "codes.h"
 #include "decode.h"
 #include <string.h>

@@ -1,5 +1,5 @@
 #!/usr/bin/env bash
-# faults.sh: shows that tests/cartridge.sh can fail: the tool as it is passes, and with each of these slips in its
+# faults.sh: shows that cartridge.sh can fail: the tool as it is passes, and with each of these slips in its
 # sources it does not. Needs the static library and the listing program to be built.
 set -u
 cd "$(dirname "$0")/../.." || exit 2
@@ -59,7 +59,7 @@ flags+=(-Wno-error)
 run_test() {
     local said status
     said=$(cd "$room" && build_cartridge target/bin/cartridge 2>&1 &&
-        tests/cartridge.sh target/bin/cartridge target/bin/listing "${runner[*]}" 2>&1)
+        tests/cartridge/cartridge.sh target/bin/cartridge target/bin/listing "${runner[*]}" 2>&1)
     status=$?
     printf '%s; %s\n' "$(tail -n 1 <<<"$said")" "$(head -n 1 <<<"$said" | cut -c 1-60)"
     return "$status"

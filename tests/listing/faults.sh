@@ -1,5 +1,5 @@
 #!/usr/bin/env bash
-# faults.sh: shows that tests/listing.sh can fail: a listing program without a slip passes it, and each that slips.c
+# faults.sh: shows that listing.sh can fail: a listing program without a slip passes it, and each that slips.c
 # makes with one is found.
 set -u
 cd "$(dirname "$0")/../.." || exit 2
@@ -34,7 +34,7 @@ trap 'rm -rf "$room"' EXIT
 failed=0
 for slip in "${!slips[@]}"; do
     "$compiler" "${flags[@]}" -DSLIP="$slip" -o "$room/listing" tests/listing/slips.c || exit 2
-    said=$(tests/listing.sh "$room/listing" "${runner[*]}")
+    said=$(tests/listing/listing.sh "$room/listing" "${runner[*]}")
     status=$?
     # The last line is the verdict, and the first tells which run failed first.
     verdict=$(tail -n 1 <<<"$said")

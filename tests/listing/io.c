@@ -1,4 +1,4 @@
-/* io.c: loaded before the C library by tests/listing.sh, so that the listing program's calls of read and write end as
+/* io.c: loaded before the C library by listing.sh, so that the listing program's calls of read and write end as
  * a system may let them end: for fewer bytes than they ask for, or interrupted.
  *
  *   IO_MOST     so many bytes at most are read or written by a call

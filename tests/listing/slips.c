@@ -1,4 +1,4 @@
-/* slips.c: a listing program in plain C by document 01, with one slip, so that faults.sh can show that tests/listing.sh
+/* slips.c: a listing program in plain C by document 01, with one slip, so that faults.sh can show that listing.sh
  * finds it. The slips are those of a main: how it reads, how it writes, and what it is for. SLIP 0 is none. */
 #define _DEFAULT_SOURCE
 #include "../image.h"

@@ -1,6 +1,6 @@
-/* blocks.c: a host that keeps little: `blocks URL put FROM COUNT` appends numbered blocks at end of data, each with a
- * filemark behind it; `blocks URL get COUNT` reads all that stand from the beginning, and compares; `blocks URL refused`
- * sees that nothing can be written, and why. */
+/* blocks.c: a host with numbered blocks: `blocks URL put FROM COUNT` appends some at end of data, with a filemark behind
+ * each; `blocks URL get COUNT` reads all that stand from the beginning, and compares; `blocks URL refused` sees that
+ * nothing can be written, and why. */
 #include "answers.h"
 
 enum { LARGEST = 5000 };

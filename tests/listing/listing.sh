@@ -1,10 +1,10 @@
 #!/usr/bin/env bash
 # listing.sh PROGRAM [RUNNER]: holds the listing program's exact output on made images to document 01, whichever way its
-# input comes in and its output is taken: no proof reaches its main. listing/faults.sh shows that these runs can fail.
+# input comes in and its output is taken: no proof reaches its main. faults.sh shows that these runs can fail.
 # RUNNER is the command, in one word, that runs PROGRAM where the machine does not.
 set -u
 program=$(realpath "$1") || exit 2
-cd "$(dirname "$0")/.." || exit 2
+cd "$(dirname "$0")/../.." || exit 2
 . tests/host.sh
 read -ra listing <<<"${2-${runner[*]}}"
 listing+=("$program")

@@ -6,9 +6,9 @@
 #include <sys/mman.h>
 static int watched_msync(void *at, size_t length, int flags);
 #define msync watched_msync
-#include "../examples/daemon/drive.h"
+#include "../../examples/daemon/drive.h"
 #undef msync
-#include "draw.h"
+#include "../draw.h"
 #include <stdlib.h>
 
 enum { LONGEST = 20000, SECTOR = 512, TEARS = 4, REFUSED_ONE_IN = 40, MOST_REFUSED = 4 };

@@ -4,7 +4,7 @@
 # word, that runs both where the machine does not.
 set -u
 program=$(realpath "$1") && listing_program=$(realpath "$2") || exit 2
-cd "$(dirname "$0")/.." || exit 2
+cd "$(dirname "$0")/../.." || exit 2
 . tests/host.sh
 read -ra run <<<"${3-${runner[*]}}"
 listing=("${run[@]}" "$listing_program")

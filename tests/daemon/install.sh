@@ -2,7 +2,7 @@
 # install.sh: installs to a temporary prefix by ./install, builds a program against that by pkg-config alone, runs it
 # and the operator's tool, and removes all of it again. A line for each check; exit status 0 exactly if all passed.
 set -u
-cd "$(dirname "$0")/.." || exit 2
+cd "$(dirname "$0")/../.." || exit 2
 . tests/host.sh
 command -v pkg-config >/dev/null || install_packages pkg-config || exit 2
 

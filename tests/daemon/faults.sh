@@ -1,8 +1,8 @@
 #!/usr/bin/env bash
-# mains_faults.sh: shows that tests/mains.c finds slips in the order in which the example daemon makes its data final:
+# faults.sh: shows that tests/daemon/mains.c finds slips in the order in which the example daemon makes its data final:
 # seeds each in turn in a copy of the daemon, and runs the test on it. Ends with status 0 exactly if each is found.
 set -u
-cd "$(dirname "$0")/.." || exit 2
+cd "$(dirname "$0")/../.." || exit 2
 . tests/library.sh
 
 # File, what stands there, what stands there with the slip. The first is none.
@@ -35,7 +35,7 @@ for fault in "${!slips[@]}"; do
         failed=1
         continue
     fi
-    "$compiler" "${flags[@]}" -Wno-error -w -O2 -pthread -o "$folder/mains" "$folder/tests/mains.c" "$LIBRARY" || exit 2
+    "$compiler" "${flags[@]}" -w -O2 -pthread -o "$folder/mains" "$folder/tests/daemon/mains.c" "$LIBRARY" || exit 2
     said=$(timeout 60 "${runner[@]}" "$folder/mains" 1 100000)
     status=$?
     if [ "$fault" -eq 0 ] && [ "$status" -eq 0 ]; then
