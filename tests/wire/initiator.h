@@ -3,17 +3,12 @@
 #ifndef INITIATOR_H
 #define INITIATOR_H
 
+#include "request.h"
 #include <iscsi/iscsi.h>
 #include <iscsi/scsi-lowlevel.h>
-#include <stdint.h>
-#include <stdio.h>
-#include <stdlib.h>
 #include <string.h>
 
 enum { LONGEST_COMMAND = 16, LONGEST_SENSE = 252, SECONDS_TO_WAIT = 30 };
-
-/* The status of a command that the wire did not answer: no drive gives it. */
-enum { NO_ANSWER = -1 };
 
 /* What room holds before a command: a byte that is still this was, most likely, not received. */
 enum { UNTOUCHED = 0xa5 };
@@ -21,17 +16,6 @@ enum { UNTOUCHED = 0xa5 };
 struct initiator {
     struct iscsi_context *context;
     int lun;
-};
-
-/* A command block, and what goes with it in one direction or none. The lengths are what the initiator announces on the
- * wire; the command block may claim others. */
-struct request {
-    const uint8_t *command;
-    size_t command_length;
-    const uint8_t *sent;
-    size_t sent_length;
-    uint8_t *room;
-    size_t room_length;
 };
 
 struct reply {
@@ -44,13 +28,6 @@ struct reply {
 };
 
 /* ---- a session */
-
-static inline void give_up(const char *doing, const char *why)
-{
-    fflush(stdout);
-    fprintf(stderr, "%s: %s\n", doing, why);
-    exit(EXIT_FAILURE);
-}
 
 /* Connects and logs in, and sends no command: a host that asked anything would meet the attention that a test waits
  * for. A lost connection stays lost, so that no command is sent twice. */
@@ -82,11 +59,6 @@ static inline void disconnect(struct initiator *initiator)
 }
 
 /* ---- a command */
-
-static inline size_t at_most(size_t number, size_t bound)
-{
-    return number < bound ? number : bound;
-}
 
 /* The sense comes behind two bytes with its length. */
 static inline void take_sense(struct reply *reply, const struct scsi_data *came)

@@ -4,9 +4,6 @@
 #ifndef LOCAL_H
 #define LOCAL_H
 
-#include <stdint.h>
-#include <stdio.h>
-#include <stdlib.h>
 #include <unistd.h>
 
 /* The daemon's names for what passes over its socket, beside those that a host uses. */
@@ -15,20 +12,12 @@
 #include "daemon/wire.h"
 #undef request
 #undef reply
+#include "request.h"
 
-enum { SCSI_STATUS_GOOD = STORMTOGGLE_GOOD, SCSI_STATUS_CHECK_CONDITION = STORMTOGGLE_CHECK_CONDITION, NO_ANSWER = -1 };
+enum { SCSI_STATUS_GOOD = STORMTOGGLE_GOOD, SCSI_STATUS_CHECK_CONDITION = STORMTOGGLE_CHECK_CONDITION };
 
 struct initiator {
     int fd;
-};
-
-struct request {
-    const uint8_t *command;
-    size_t command_length;
-    const uint8_t *sent;
-    size_t sent_length;
-    uint8_t *room;
-    size_t room_length;
 };
 
 struct reply {
@@ -37,18 +26,6 @@ struct reply {
     uint8_t sense[STORMTOGGLE_SENSE_LENGTH];
     size_t received;
 };
-
-static inline size_t at_most(size_t number, size_t bound)
-{
-    return number < bound ? number : bound;
-}
-
-static inline void give_up(const char *doing, const char *why)
-{
-    fflush(stdout);
-    fprintf(stderr, "%s: %s\n", doing, why);
-    exit(EXIT_FAILURE);
-}
 
 /* The address is the socket's path. */
 static inline struct initiator connect_to(const char *name, const char *address)
