@@ -48,7 +48,7 @@ static inline unsigned mount(struct drive *d)
 
 /* ---- durability */
 
-/* Both partitions: a host may have written to one and filled the other's place since. */
+/* Both partitions: a host may have gone from one to the other since it wrote. */
 static inline int make_all_final(struct drive *d)
 {
     int first = make_final(&d->tape[0]), second = make_final(&d->tape[1]);
@@ -150,14 +150,14 @@ static inline int tells_attention(struct drive *d, struct exchange *x)
 
 static inline void prevent_allow(struct drive *d, struct exchange *x)
 {
-    uint8_t prevent = x->command[4];
+    const uint8_t *command = x->command;
     if (tells_attention(d, x))
         return;
-    if (prevent > 1) {
+    if (command[1] != 0 || command[2] != 0 || command[3] != 0 || command[4] > 1 || command[5] != 0) {
         answer_check(x, INVALID_FIELD_IN_COMMAND, "invalid field in command block");
         return;
     }
-    d->is_locked = prevent;
+    d->is_locked = command[4];
     answer_good(x);
 }
 
@@ -179,19 +179,36 @@ static inline void tell_partitions(struct drive *d, struct exchange *x)
     answer_data(x, data, length, x->command[4]);
 }
 
-/* An unload while a host prevents the removal, and LOAD of a cartridge that was unloaded: it lies in the drive yet, so
+/* Whether the library would carry out this unload: nothing waits, and there is no bit but IMMED, which has no effect. */
+static inline int would_unload(const struct drive *d, const struct exchange *x)
+{
+    uint8_t command[LONGEST_COMMAND];
+    memcpy(command, x->command, SIX);
+    if (!d->is_exact)
+        translate(command, SIX);
+    return is_loaded(d) && d->record[STORMTOGGLE_RECORD_ATTENTION] == 0 && (command[1] & ~IMMEDIATE) == 0 &&
+           command[2] == 0 && command[3] == 0 && command[4] == 0 && command[5] == 0;
+}
+
+/* Whether the library told that nothing is loaded, and nothing that comes before that. */
+static inline int is_not_loaded(const struct exchange *x)
+{
+    return x->why == NULL && x->status == STORMTOGGLE_CHECK_CONDITION &&
+           condition_of(sense_in_fixed_form(x->sense)) == MEDIUM_NOT_PRESENT;
+}
+
+/* An unload while a host prevents the removal; and LOAD of a cartridge that was unloaded: it lies in the drive yet, so
  * it is mounted again. The attention that a mount leaves is for the next command. */
 static inline void load_unload(struct drive *d, struct exchange *x)
 {
-    int is_load = x->command[4] & 1, is_prevented = d->is_locked && !is_load && is_loaded(d);
-    int is_again = !d->is_exact && is_load && !is_loaded(d);
-    if (!is_prevented && !is_again)
-        ask_library(d, x);
-    else if (tells_attention(d, x))
-        return;
-    else if (is_prevented)
+    if (d->is_locked && would_unload(d, x)) {
         answer_check(x, REMOVAL_PREVENTED, "a host prevents the removal");
-    else if (mount(d) == 0)
+        return;
+    }
+    ask_library(d, x);
+    if (d->is_exact || !is_not_loaded(x) || (x->command[4] & 1) == 0)
+        return;
+    if (mount(d) == 0)
         answer_good(x);
     else
         answer_refusal(x, STORMTOGGLE_BY_DRIVE);

@@ -155,7 +155,8 @@ static int is_write_error(const struct exchange *x)
 static void look_at_files(const struct exchange *x)
 {
     uint8_t operation = x->command[0];
-    int is_point = operation == WRITE_FILEMARKS || operation == ERASE || !is_loaded(&drive);
+    int is_point = operation == WRITE_FILEMARKS || operation == ERASE ||
+                   (operation == LOAD_UNLOAD && !is_loaded(&drive));
     for (int i = 0; i < 2; i++) {
         struct cartridge *c = &drive.tape[i];
         struct disk *d = &disks[i];

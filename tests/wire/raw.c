@@ -11,7 +11,7 @@
 #include "identity.h"
 #include "loading.h"
 
-enum { CHECKS_IF_EXACT = 567, CHECKS_IF_STOCK = 709 };
+enum { CHECKS_IF_EXACT = 573, CHECKS_IF_STOCK = 715 };
 
 static void try_what_both_serve(struct wire *wire)
 {
