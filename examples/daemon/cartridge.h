@@ -167,15 +167,17 @@ static inline int open_file(struct cartridge *c)
 {
     struct stat about;
     int may_write = 1;
-    c->fd = open(c->name, O_RDWR | O_CLOEXEC);
+    c->fd = open(c->name, O_RDWR | O_CLOEXEC | O_NONBLOCK);
     if (c->fd < 0 && (errno == EACCES || errno == EROFS || errno == EPERM)) {
         may_write = 0;
-        c->fd = open(c->name, O_RDONLY | O_CLOEXEC);
+        c->fd = open(c->name, O_RDONLY | O_CLOEXEC | O_NONBLOCK);
     }
-    if (c->fd < 0 || fstat(c->fd, &about) != 0)
+    if (c->fd < 0)
         return say_failed(c->name, "cannot be opened");
     if (flock(c->fd, LOCK_EX | LOCK_NB) != 0)
         return say_failed(c->name, "is in use by another drive or tool");
+    if (fstat(c->fd, &about) != 0)
+        return say_failed(c->name, "cannot be looked at");
     if (!S_ISREG(about.st_mode) || about.st_size < STORMTOGGLE_SHORTEST_IMAGE ||
         about.st_size > STORMTOGGLE_LONGEST_IMAGE) {
         fprintf(stderr, "%s: is no file of %d to %d bytes\n", c->name, STORMTOGGLE_SHORTEST_IMAGE,

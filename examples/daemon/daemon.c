@@ -27,7 +27,7 @@ static const char usage[] =
     "  --exact         translate nothing for stock tape programs\n"
     "  --log FILE      append a line for each command to FILE; without it they go to standard output\n"
     "  --user NAME     whose rights to keep, if started as root (default: nobody)\n"
-    "Exit status: 0 stopped by SIGINT or SIGTERM, 1 the system refused, 2 wrong use, 3 the cartridge is torn.\n";
+    "Exit status: 0 stopped by SIGINT, SIGTERM or SIGHUP, 1 the system refused, 2 wrong use, 3 the cartridge is torn.\n";
 
 /* ---- options */
 
@@ -209,7 +209,7 @@ static int open_socket(const char *path, const struct passwd *user)
         unlink(path); /* left by a daemon that was killed: one that lives has the cartridge */
     umask(0177);
     if (fd < 0 || bind(fd, (struct sockaddr *)&address, sizeof address) != 0 || listen(fd, SOMAXCONN) != 0 ||
-        (geteuid() == 0 && chown(path, user->pw_uid, user->pw_gid) != 0)) {
+        (geteuid() == 0 && lchown(path, user->pw_uid, user->pw_gid) != 0)) {
         say_failed(path, "cannot be listened on");
         return -1;
     }
@@ -227,7 +227,7 @@ static int drop_root(const struct passwd *user)
 
 /* ---- the life of it */
 
-/* Holds the lock to the end: the command under way is finished, and no other begins. The socket goes exactly if all is
+/* Holds the lock to the end: the command under way is finished, and no other begins. The socket goes only if all is
  * final, for whoever does not learn the exit status. */
 static int stop(struct drive *d, const char *socket)
 {
@@ -240,14 +240,27 @@ static int stop(struct drive *d, const char *socket)
     return is_final ? DONE : SYSTEM_REFUSED;
 }
 
-static int run(struct drive *d, const struct options *o)
+/* The signals that end the drive are blocked in every thread, so that one can wait for them: from the start, for one
+ * that comes before the drive is ready ends it as soon as it is. Who reads the log may go, and the drive stays. */
+static sigset_t block_ends(void)
+{
+    sigset_t ends;
+    sigemptyset(&ends);
+    sigaddset(&ends, SIGINT);
+    sigaddset(&ends, SIGTERM);
+    sigaddset(&ends, SIGHUP);
+    pthread_sigmask(SIG_BLOCK, &ends, NULL);
+    signal(SIGPIPE, SIG_IGN);
+    return ends;
+}
+
+static int run(struct drive *d, const struct options *o, const sigset_t *ends)
 {
     struct listener l = {.drive = d};
     const struct passwd *user = getpwnam(o->user);
     pthread_t thread;
-    sigset_t ends;
     int which;
-    if (user == NULL) {
+    if (user == NULL && geteuid() == 0) {
         fprintf(stderr, "daemon: there is no user %s\n", o->user);
         return SYSTEM_REFUSED;
     }
@@ -258,17 +271,21 @@ static int run(struct drive *d, const struct options *o)
         say_failed(o->user, "its rights cannot be taken");
         return SYSTEM_REFUSED;
     }
-    signal(SIGPIPE, SIG_IGN); /* who reads the log may go, and the drive stays */
-    sigemptyset(&ends);
-    sigaddset(&ends, SIGINT);
-    sigaddset(&ends, SIGTERM);
-    pthread_sigmask(SIG_BLOCK, &ends, NULL); /* in every thread, so that this one gets them */
     if (pthread_create(&thread, NULL, listen_on, &l) != 0)
         return SYSTEM_REFUSED;
     printf("mounted: %u partitions\n", d->record[STORMTOGGLE_RECORD_PARTITIONS]);
     fflush(stdout);
-    sigwait(&ends, &which);
+    sigwait(ends, &which);
     return stop(d, o->socket);
+}
+
+/* A standard stream that is closed gets a descriptor that is not a cartridge's: what is printed would go there. */
+static int secure_streams(void)
+{
+    for (int i = 0; i <= 2; i++)
+        if (fcntl(i, F_GETFD) < 0 && open("/dev/null", O_RDWR) != i)
+            return 0;
+    return 1;
 }
 
 int main(int count, char **arguments)
@@ -276,6 +293,9 @@ int main(int count, char **arguments)
     static struct drive drive = {.lock = PTHREAD_MUTEX_INITIALIZER};
     struct options options;
     (void)count;
+    if (!secure_streams())
+        return SYSTEM_REFUSED;
+    sigset_t ends = block_ends();
     if (arguments[1] != NULL && strcmp(arguments[1], "--help") == 0)
         return fputs(usage, stdout) == EOF;
     if (!read_options(&options, arguments + 1)) {
@@ -290,5 +310,5 @@ int main(int count, char **arguments)
     }
     setvbuf(drive.log, NULL, _IOLBF, BUFSIZ);
     int status = load(&drive, &options);
-    return status == DONE ? run(&drive, &options) : status;
+    return status == DONE ? run(&drive, &options, &ends) : status;
 }

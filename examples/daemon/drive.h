@@ -51,10 +51,13 @@ static inline unsigned mount(struct drive *d)
 /* Both partitions: a host may have gone from one to the other since it wrote. */
 static inline int make_all_final(struct drive *d)
 {
-    int first = make_final(&d->tape[0]), second = make_final(&d->tape[1]);
-    if (!first || !second)
-        fprintf(stderr, "OPERATOR: %s could not be made final: %s\n", d->tape[first ? 1 : 0].name, strerror(errno));
-    return first && second;
+    int is_final = 1;
+    for (int i = 0; i < 2; i++)
+        if (!make_final(&d->tape[i])) {
+            fprintf(stderr, "OPERATOR: %s could not be made final: %s\n", d->tape[i].name, strerror(errno));
+            is_final = 0;
+        }
+    return is_final;
 }
 
 static inline int is_writing(uint8_t operation)
@@ -70,11 +73,21 @@ static inline void note_written(struct drive *d, const uint8_t *command, uint32_
         note_change(current_of(d), from, is_erased && (command[1] & 1));
 }
 
-/* Filemarks, an erase and an unload make final what stands, and so does enough that waits. */
-static inline int is_final_point(struct drive *d, const uint8_t *command)
+/* Whether a command did what it could, and was stopped by no test: GOOD, or told of the end of the partition. */
+static inline int is_carried_out(const struct drive *d, uint64_t answer)
 {
+    uint8_t key = sense_in_fixed_form(d->record + STORMTOGGLE_RECORD_SENSE).key;
+    return STORMTOGGLE_REFUSAL(answer) == 0 &&
+           (STORMTOGGLE_STATUS(answer) == STORMTOGGLE_GOOD || key == NO_SENSE || key == VOLUME_OVERFLOW);
+}
+
+/* Filemarks, an erase and an unload make final what stands, and so does a WRITE when enough waits. */
+static inline int is_final_point(const struct drive *d, const uint8_t *command, uint64_t answer)
+{
+    if (!is_carried_out(d, answer))
+        return 0;
     return command[0] == WRITE_FILEMARKS || command[0] == ERASE || (command[0] == LOAD_UNLOAD && !is_loaded(d)) ||
-           bytes_not_final(current_of(d)) > MOST_NOT_FINAL;
+           (command[0] == WRITE && bytes_not_final(&d->tape[0]) + bytes_not_final(&d->tape[1]) > MOST_NOT_FINAL);
 }
 
 /* ---- the library */
@@ -131,7 +144,7 @@ static inline void ask_library(struct drive *d, struct exchange *x)
     x->is_translated = !d->is_exact && translate(command, x->command_length);
     uint64_t answer = call(d, command, x->command_length, x, x->received, x->room);
     answer_by(x, answer, d->record);
-    if (STORMTOGGLE_REFUSAL(answer) == 0 && is_final_point(d, command) && !make_all_final(d))
+    if (is_final_point(d, command, answer) && !make_all_final(d))
         answer_check(x, WRITE_ERROR, "the file could not be written");
 }
 

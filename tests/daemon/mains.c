@@ -150,13 +150,20 @@ static int is_write_error(const struct exchange *x)
     return x->status != STORMTOGGLE_GOOD && (x->sense[STORMTOGGLE_SENSE_KEY] & STORMTOGGLE_KEY) == WRITE_ERROR >> 16;
 }
 
+/* GOOD, or told of the end of the partition, or of the disk. */
+static int is_done(const struct exchange *x)
+{
+    uint8_t key = x->sense[STORMTOGGLE_SENSE_KEY] & STORMTOGGLE_KEY;
+    return x->status == STORMTOGGLE_GOOD || key == NO_SENSE || key == VOLUME_OVERFLOW || is_write_error(x);
+}
+
 /* After a command that makes final: the disk has what the library was lent, unless the host was told otherwise. After
  * any other: the file is as it was. */
 static void look_at_files(const struct exchange *x)
 {
     uint8_t operation = x->command[0];
-    int is_point = operation == WRITE_FILEMARKS || operation == ERASE ||
-                   (operation == LOAD_UNLOAD && !is_loaded(&drive));
+    int is_point = is_done(x) && (operation == WRITE_FILEMARKS || operation == ERASE ||
+                                  (operation == LOAD_UNLOAD && !is_loaded(&drive)));
     for (int i = 0; i < 2; i++) {
         struct cartridge *c = &drive.tape[i];
         struct disk *d = &disks[i];

@@ -9,7 +9,7 @@ tell() { # WHAT COMMAND...
 blocks() { run_wire_program 60 blocks "$url" "$@"; }
 
 # The processes of the drive that was started last, and where they listen.
-children() { pgrep -P "$drive"; }
+children() { ps --ppid "$drive" -o pid=,comm= | awk '$2 != "sleep" { print $1 }'; }
 none_is_root() {
     local process
     for process in $(children); do
@@ -35,7 +35,7 @@ must_end() { # WHAT STATUS WORDS SERVE-WORD...
 # Put, stopped, put again, and found again each time, also by another signal.
 start_again() { # CARTRIDGE
     local signal at=0
-    for signal in INT TERM INT; do
+    for signal in INT TERM HUP; do
         start_drive "serve-$signal" "$1" || return
         blocks put "$at" 40
         at=$((at + 40))
@@ -46,6 +46,26 @@ start_again() { # CARTRIDGE
     start_drive serve-last "$1" || return
     blocks get "$at"
     stop_drive serve-last
+}
+
+# A signal that comes with the line that tells it is ready, or before that, is not lost.
+stop_at_once() { # CARTRIDGE
+    local times
+    for times in {1..10}; do
+        start_drive serve-at-once "$1" || return
+        tell "stopped as soon as it is ready, time $times" end_drive TERM
+    done
+    ./serve --listen "127.0.0.1:$(free_port)" "$1" >"$accepted/serve-early.serve" 2>&1 &
+    drive=$!
+    sleep 0.05
+    tell "stopped before it is ready" end_drive TERM
+}
+
+# What is printed must not go into a cartridge because nobody listens.
+print_to_nobody() { # CARTRIDGE
+    cp "$1" "$1.before"
+    timeout --preserve-status -s TERM 3 ./serve --listen "127.0.0.1:$(free_port)" "$1" >&- 2>&- </dev/null
+    tell "a drive without standard streams leaves its cartridge as it is" cmp "$1" "$1.before"
 }
 
 tool_ends_with() { # STATUS WORD...
@@ -106,6 +126,8 @@ serve_stage() {
     rm -f "$cartridge"*
     tell "a blank made by the tool" tool_ends_with 0 blank 4M "$cartridge"
     start_again "$cartridge"
+    stop_at_once "$cartridge"
+    print_to_nobody "$cartridge"
     while_served "$cartridge"
     not_to_be_written "$cartridge" 120
     torn "$cartridge"
