@@ -109,6 +109,11 @@ holds "uninstall below DESTDIR" installs_below "$room/moved" --uninstall
 holds "somebody else's file stays" [ "$(cd "$room/moved" && find . -type f)" = ./opt/some/where/lib/of_somebody_else ]
 holds "and no other directory than its own" [ "$(find "$room/moved" -mindepth 1 -type d | wc -l)" -eq 4 ]
 
+mkdir "$room/prefix/bin"
+echo "of somebody else" >"$room/prefix/bin/cartridge"
+holds "another cartridge is not overwritten" installs 1 --prefix "$room/prefix"
+holds "it stays, and nothing comes beside it" [ "$(find "$room/prefix" -type f -exec cat {} +)" = "of somebody else" ]
+
 holds "wrong words are refused" installs 2 --prefx "$room/prefix"
 holds "a prefix must be named" installs 2 --prefix
 holds "and not be empty" installs 2 --prefix=
