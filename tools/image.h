@@ -4,6 +4,7 @@
 #define TOOLS_IMAGE_H
 
 #include "../examples/decode.h"
+#include "../examples/layout.h"
 #include "progress.h"
 
 struct image {
@@ -13,10 +14,8 @@ struct image {
 
 /* ---- the trailer, and the directory before it */
 
-enum { IMAGE_TRAILER = 16, IMAGE_ENTRY = 4, IMAGE_PROTECTED = 0x01, IMAGE_ZONE_SHARE = 16 };
-
-/* Each number of the trailer, by how many bytes it stands before the end of the image. */
-enum image_field { IMAGE_N = 16, IMAGE_FLAGS = 12, IMAGE_D = 8, IMAGE_L = 4 };
+/* Of the room of a blank, the part that is the early-warning zone. */
+enum { IMAGE_ZONE_SHARE = 16 };
 
 /* Only for an image that is long enough to have a trailer. */
 static inline uint32_t image_field(struct image image, enum image_field field)
@@ -34,7 +33,7 @@ struct object {
 static inline struct object object_at(struct image image, uint32_t number)
 {
     uint32_t entry = number_at(image.bytes + image.length - IMAGE_TRAILER - IMAGE_ENTRY * ((size_t)number + 1));
-    return (struct object){.is_filemark = entry >> 31 != 0, .end = entry & 0x7fffffff};
+    return (struct object){.is_filemark = entry >> IMAGE_FILEMARK_SHIFT != 0, .end = entry & IMAGE_END};
 }
 
 /* end(N), of a sound image. */

@@ -15,6 +15,7 @@
 
 #include "../codes.h"
 #include "../decode.h"
+#include "../layout.h"
 #include "stormtoggle.h"
 #include <errno.h>
 #include <fcntl.h>
@@ -24,10 +25,6 @@
 #include <sys/mman.h>
 #include <sys/stat.h>
 #include <unistd.h>
-
-/* The image, as document 01 lays it out. */
-enum { TRAILER = 16, TRAILER_N = 0, TRAILER_D = 8, ENTRY = 4 };
-#define ENTRY_END 0x7fffffffu
 
 struct range {
     size_t from, to;
@@ -51,19 +48,19 @@ struct cartridge {
 
 static inline uint32_t objects_in(const struct cartridge *c, const uint8_t *image)
 {
-    return number_at(image + c->length - TRAILER + TRAILER_N);
+    return number_at(image + c->length - IMAGE_N);
 }
 
 /* Where the entries of so many objects start. */
 static inline size_t directory_of(const struct cartridge *c, uint32_t objects)
 {
-    return c->length - TRAILER - ENTRY * (size_t)objects;
+    return c->length - IMAGE_TRAILER - IMAGE_ENTRY * (size_t)objects;
 }
 
 /* Where the data of so many objects end. */
 static inline size_t end_of(const struct cartridge *c, uint32_t objects)
 {
-    return objects == 0 ? 0 : number_at(c->lent + directory_of(c, objects)) & ENTRY_END;
+    return objects == 0 ? 0 : number_at(c->lent + directory_of(c, objects)) & IMAGE_END;
 }
 
 /* ---- making it final */
@@ -107,11 +104,11 @@ static inline void copy_to_file(struct cartridge *c, struct range r)
 /* Puts a trailer on the disk that tells of so many objects. Until that is done, the disk may have the one before. */
 static inline int tell_objects(struct cartridge *c, uint32_t objects)
 {
-    uint8_t trailer[TRAILER];
-    memcpy(trailer, c->lent + c->length - TRAILER, TRAILER);
-    memcpy(trailer + TRAILER_N, (uint8_t[]){FOUR_BYTES(objects)}, ENTRY);
-    memcpy(trailer + TRAILER_D, (uint8_t[]){FOUR_BYTES(directory_of(c, objects))}, ENTRY);
-    memcpy(c->file + c->length - TRAILER, trailer, TRAILER);
+    uint8_t trailer[IMAGE_TRAILER];
+    memcpy(trailer, c->lent + c->length - IMAGE_TRAILER, IMAGE_TRAILER);
+    memcpy(trailer + IMAGE_TRAILER - IMAGE_N, (uint8_t[]){FOUR_BYTES(objects)}, 4);
+    memcpy(trailer + IMAGE_TRAILER - IMAGE_D, (uint8_t[]){FOUR_BYTES(directory_of(c, objects))}, 4);
+    memcpy(c->file + c->length - IMAGE_TRAILER, trailer, IMAGE_TRAILER);
     c->told = objects > c->told ? objects : c->told;
     if (!is_on_disk(c))
         return 0;
@@ -130,9 +127,9 @@ static inline void give_back(struct cartridge *c, struct range r)
  * may have stored nothing. The trailer's is made private before the file gets another. */
 static inline void keep_trailer(struct cartridge *c)
 {
-    volatile uint8_t *trailer = c->lent + c->length - TRAILER;
+    volatile uint8_t *trailer = c->lent + c->length - IMAGE_TRAILER;
     trailer[0] = trailer[0];
-    trailer[TRAILER - 1] = trailer[TRAILER - 1];
+    trailer[IMAGE_TRAILER - 1] = trailer[IMAGE_TRAILER - 1];
 }
 
 /* False if the system could not: then what was changed is kept, and the next call tries again. */

@@ -192,7 +192,7 @@ static inline void tell_partitions(struct drive *d, struct exchange *x)
     answer_data(x, data, length, x->command[4]);
 }
 
-/* Whether the library would carry out this unload: nothing waits, and there is no bit but IMMED, which has no effect. */
+/* Whether the library would carry out this unload: no attention waits, and no bit is set but IMMED. */
 static inline int would_unload(const struct drive *d, const struct exchange *x)
 {
     uint8_t command[LONGEST_COMMAND];

@@ -44,8 +44,8 @@ static int is_sound(const uint8_t *image, size_t length)
 static int has_same(const struct cartridge *c, const uint8_t *a, const uint8_t *b, uint32_t objects)
 {
     size_t entries = directory_of(c, objects);
-    size_t end = objects == 0 ? 0 : number_at(a + entries) & ENTRY_END;
-    return memcmp(a + entries, b + entries, ENTRY * (size_t)objects) == 0 && memcmp(a, b, end) == 0;
+    size_t end = objects == 0 ? 0 : number_at(a + entries) & IMAGE_END;
+    return memcmp(a + entries, b + entries, IMAGE_ENTRY * (size_t)objects) == 0 && memcmp(a, b, end) == 0;
 }
 
 static int is_as(const struct cartridge *c, const uint8_t *torn, const uint8_t *image)
