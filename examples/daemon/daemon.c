@@ -27,7 +27,7 @@ static const char usage[] =
     "  --exact         translate nothing for stock tape programs\n"
     "  --log FILE      append a line for each command to FILE; without it they go to standard output\n"
     "  --user NAME     whose rights to keep, if started as root (default: nobody)\n"
-    "Exit status: 0 stopped by SIGINT, SIGTERM or SIGHUP, 1 the system refused, 2 wrong use, 3 the cartridge is torn.\n";
+    "It ends at SIGINT, SIGTERM or SIGHUP. Exit status: 0 stopped, 1 the system refused, 2 wrong use, 3 torn.\n";
 
 /* ---- options */
 
