@@ -1,4 +1,6 @@
 // The act of each command, once every test has passed.
+#![tactic(auto)]
+
 ghost use Rattle.std.specs.Prelude.{◌≡◌, [], ◌≤◌, length};
 ghost use Rattle.words.specs.Words.{over};
 ghost use Rattle.codes.specs.declared.operation.Operation.TheVariants.{LoadUnload};

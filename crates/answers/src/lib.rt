@@ -1,4 +1,6 @@
 // What a call answers: four numbers, and how they pack into one for C.
+#![tactic(auto)]
+
 ghost use Rattle.std.specs.Prelude.{◌≡◌, ◌<◌};
 ghost use Rattle.answers.specs.Answers.{InFields, packed, packed_part};
 ghost use Rattle.answers.specs.Answers.{answered, refused, done};
@@ -22,7 +24,7 @@ pub const WRONG_LENGTH: u8 = 7;
 pub const CHECK_CONDITION: u8 = 0x02;
 
 // Refusal (0 for none), SCSI status, bytes carried, objects crossed.
-#[derive(Drop)]
+#[derive(Clone, Copy)]
 pub struct Answer {
     pub refusal: u8,
     pub status: u8,

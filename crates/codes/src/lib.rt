@@ -1,4 +1,6 @@
 // Command blocks: their lengths, the commands served, the masks of their bytes, and their fields.
+#![tactic(auto)]
+
 mod block;
 mod fields;
 mod lengths;

@@ -41,7 +41,7 @@ pub const LOCATE_16: u16 = 0x92;
 
 pub const NOT_SERVED: u16 = 0x100;
 
-#[derive(Drop)]
+#[derive(Clone, Copy)]
 pub enum Operation {
     TestUnitReady,
     Rewind,

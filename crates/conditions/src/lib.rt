@@ -1,4 +1,6 @@
 // The condition of each test of a command, by document 01's order, and the bytes that numbers 2 and 3 compare.
+#![tactic(auto)]
+
 mod conditions;
 mod needs;
 

@@ -9,7 +9,7 @@ use record::Drive;
 use sense::Sense;
 
 // The drive with its sense replaced, the SCSI status, the bytes carried, the objects crossed.
-#[derive(Drop)]
+#[derive(Clone, Copy)]
 pub struct Left {
     pub drive: Drive,
     pub status: u8,

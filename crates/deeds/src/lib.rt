@@ -1,4 +1,6 @@
 // What the acts of the commands share: GOOD and CHECK CONDITION, and the senses of what is met or could not be put.
+#![tactic(auto)]
+
 mod deeds;
 mod senses;
 

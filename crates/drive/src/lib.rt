@@ -1,4 +1,6 @@
 // The drive lent: a command alters it where it stands. One thin function above the step by value, and one that lends it a local.
+#![tactic(auto)]
+
 ghost use Rattle.std.specs.Prelude.{◌≡◌};
 ghost use Rattle.commands.specs.Call.{lent, outcome, drive_call};
 ghost use Rattle.step.specs.Served.{outcome_of};

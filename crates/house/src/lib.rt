@@ -1,4 +1,6 @@
 // The house services over bytes that may refuse: fresh, mount, blank, protection. None has a `requires`: what is not right is refused by number.
+#![tactic(auto)]
+
 mod cartridge;
 mod images;
 mod records;

@@ -1,4 +1,6 @@
 // The partition image read: whether it is sound, its trailer and directory, and where its objects lie.
+#![tactic(auto)]
+
 mod entries;
 mod part;
 mod sound;

@@ -7,7 +7,7 @@ use crate::entries::{count_of, end_at, is_filemark};
 use crate::sound::is_sound;
 
 // A part of a slice: where it starts, and its length.
-#[derive(Drop)]
+#[derive(Clone, Copy)]
 pub struct Part {
     pub start: u32,
     pub len: u32,

@@ -1,4 +1,6 @@
 // Which rules of document 01 speak of which command, the field errors of each, and the numbers that their code shares.
+#![tactic(auto)]
+
 mod errors;
 mod kinds;
 mod numbers;

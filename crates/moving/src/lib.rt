@@ -1,4 +1,6 @@
 // SPACE, LOCATE and REWIND: how they move over the objects of an image, where they end, and what they tell.
+#![tactic(auto)]
+
 mod counts;
 mod locating;
 mod spacing;

@@ -1,4 +1,6 @@
 // The tests of a command in document 01's order, after 1 and 4: what ends it before it acts.
+#![tactic(auto)]
+
 ghost use Rattle.std.specs.Prelude.{◌≡◌, true, false, ◌≤◌, length, drop};
 ghost use Rattle.codes.specs.Codes.{code_of, too_short, operation_of};
 ghost use Rattle.answers.specs.Answers.{first};
@@ -19,7 +21,7 @@ use sense::{
 };
 
 // A refusal by number; the waiting attention; CHECK CONDITION with key, ASC and ASCQ; or nothing, and the command acts.
-#[derive(Drop)]
+#[derive(Clone, Copy)]
 pub enum Stop {
     Refuse(u8),
     Attend,

@@ -1,4 +1,6 @@
 // The commands that give or take parameter data: REQUEST SENSE, READ BLOCK LIMITS, MODE SENSE, MODE SELECT, READ POSITION.
+#![tactic(auto)]
+
 mod position;
 mod replies;
 mod selecting;

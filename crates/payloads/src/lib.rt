@@ -1,4 +1,6 @@
 // The bytes that REQUEST SENSE, READ BLOCK LIMITS, MODE SENSE and READ POSITION return, and those that MODE SELECT takes.
+#![tactic(auto)]
+
 mod asked;
 mod data;
 mod list;

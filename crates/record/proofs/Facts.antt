@@ -27,5 +27,5 @@ held d is =
     record {
       position_fits = o.1.1.1.1.0.1;
       block_fits = o.1.1.1.1.1.0.1;
-      sense_length_lem = sym (length_map _ d.sense) ∙ o.1.1.1.1.1.1.0.1.0.1;
+      sense_length_lem = o.1.1.1.1.1.1.0.1.0.1;
     }

@@ -1,7 +1,7 @@
 // The drive by value. The kept sense is its eighteen bytes, replaced whole by each command's sense.
 use sense::SENSE_LENGTH;
 
-#[derive(Drop)]
+#[derive(Clone, Copy)]
 pub struct Drive {
     pub loaded: u8,
     pub partitions: u8,

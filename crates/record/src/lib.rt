@@ -1,5 +1,7 @@
 // The drive record: thirty bytes as a `Drive` by value and back, when it is well formed, and what fresh, mount, LOAD and
 // unload make of it.
+#![tactic(auto)]
+
 mod codec;
 mod drive;
 mod states;

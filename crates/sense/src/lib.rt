@@ -1,4 +1,6 @@
 // The eighteen sense bytes: made from their parts, taken apart again, and what a command tells by them; the same parts in descriptor form.
+#![tactic(auto)]
+
 mod descriptors;
 
 ghost use Rattle.std.specs.Prelude.{◌≡◌, cond, ◌+◌, ◌%◌, ℤ};
@@ -62,7 +64,7 @@ const ILI: u8 = 0x20;
 
 const ADDITIONAL_LENGTH: u8 = 0x0a;
 
-#[derive(Drop)]
+#[derive(Clone, Copy)]
 pub struct Sense {
     pub valid: bool,
     pub filemark: bool,
@@ -145,7 +147,7 @@ pub fn parts_of(b: &[u8; SENSE_LENGTH]) -> Sense
 }
 
 // A residue: whether it fits 32 signed bits, and the request and the actual, each in 32 bits, whose difference it is.
-#[derive(Drop)]
+#[derive(Clone, Copy)]
 pub struct Residue {
     pub fits: bool,
     pub request: u32,

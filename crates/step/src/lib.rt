@@ -1,4 +1,6 @@
 // One command on a drive by value: the tests in order, and then its act on the partition that it looks at.
+#![tactic(auto)]
+
 mod partitions;
 mod stepping;
 

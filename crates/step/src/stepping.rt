@@ -18,7 +18,7 @@ use record::Drive;
 use sense::SENSE_LENGTH;
 
 // The drive after a command, and the answer.
-#[derive(Drop)]
+#[derive(Clone, Copy)]
 pub struct Served {
     pub drive: Drive,
     pub answer: Answer,

@@ -14,7 +14,7 @@ pub fn command(
     sent: &[u8],
     received: &mut [u8],
 ) -> Answer
-    ensures* { λ r. ⌜ result_of r rec.new (lent cmd.now p0.new p1.new sent.now received.new) ≡ command_call rec.old (lent cmd.now p0.old p1.old sent.now received.old) ⌝ }
+    ensures { result_of result rec.new (lent cmd.now p0.new p1.new sent.now received.new) ≡ command_call rec.old (lent cmd.now p0.old p1.old sent.now received.old) }
 {
     // Number 1 comes before number 4; the service tests it for a record of the right length.
     if rec.len() != record::RECORD_LENGTH {
@@ -43,7 +43,7 @@ pub extern "C" fn stormtoggle_command(
     sent: &[u8],
     received: &mut [u8],
 ) -> u64
-    ensures* { λ r. ⌜ returned r rec.new (lent cmd.now p0.new p1.new sent.now received.new) ≡ numbered_result (command_call rec.old (lent cmd.now p0.old p1.old sent.now received.old)) ⌝ }
+    ensures { returned result rec.new (lent cmd.now p0.new p1.new sent.now received.new) ≡ numbered_result (command_call rec.old (lent cmd.now p0.old p1.old sent.now received.old)) }
 {
     answers::pack(command(rec, cmd, p0, p1, sent, received))
 }

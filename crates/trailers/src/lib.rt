@@ -1,4 +1,6 @@
 // What protection and blanking write into the trailer.
+#![tactic(auto)]
+
 ghost use Rattle.std.specs.Prelude.{◌≡◌, ◌≤◌, length};
 ghost use Rattle.objects.specs.Room.{trailer_length};
 ghost use Rattle.image.specs.Image.{least_length, most_length};

@@ -1,4 +1,6 @@
 // The loops of READ, WRITE and WRITE FILEMARKS: runs of blocks read from an image, and objects put into one while each fits.
+#![tactic(auto)]
+
 mod puts;
 mod runs;
 

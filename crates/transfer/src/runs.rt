@@ -6,7 +6,7 @@ ghost use Rattle.image.specs.Image.{count, sound, objects};
 ghost use Rattle.transfer.specs.Runs.{run_with};
 
 // Why a run of blocks ends: all were read, one had another length, a filemark, end of data.
-#[derive(Drop)]
+#[derive(Clone, Copy)]
 pub enum Ended {
     Whole,
     OddLength,
@@ -15,7 +15,7 @@ pub enum Ended {
 }
 
 // How many whole blocks were read, how many objects were crossed, and why the run ended.
-#[derive(Drop)]
+#[derive(Clone, Copy)]
 pub struct Blocks {
     pub blocks: u32,
     pub crossed: u32,

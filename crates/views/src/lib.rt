@@ -1,4 +1,6 @@
 // The view: the very part of a lent partition that holds a block. It never refuses.
+#![tactic(auto)]
+
 ghost use Rattle.std.specs.Prelude.{◌≡◌};
 ghost use Rattle.views.specs.Views.{view_of};
 ghost use Rattle.image.specs.Parts.{shown, place_of};

@@ -1,11 +1,13 @@
 // The walks over the objects of an image, from a position on and back.
+#![tactic(auto)]
+
 ghost use Rattle.std.specs.Prelude.{◌≡◌, true, ◌≤◌, drop};
 ghost use Rattle.image.specs.Image.{count, sound, objects};
 ghost use Rattle.objects.specs.Movement.{blocks, filemarks, walk, before};
 ghost use Rattle.walks.specs.Walks.{walk_of};
 
 // Why a walk ends: all that was asked for is counted, a filemark was crossed that was not, nothing more lies ahead.
-#[derive(Drop)]
+#[derive(Clone, Copy)]
 pub enum Why {
     Done,
     Marked,
@@ -13,7 +15,7 @@ pub enum Why {
 }
 
 // How many objects were crossed, how many of them were counted, and why the walk ended.
-#[derive(Drop)]
+#[derive(Clone, Copy)]
 pub struct Walked {
     pub crossed: u32,
     pub counted: u32,

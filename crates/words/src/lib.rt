@@ -1,4 +1,6 @@
 // Big-endian numbers in a byte slice, runs of bytes copied and zeroed, and two's complement: the leaves under every crate.
+#![tactic(auto)]
+
 mod read;
 mod run;
 mod signed;

@@ -1,4 +1,6 @@
 // WRITE, WRITE FILEMARKS and ERASE: what they leave of the drive and of the partition.
+#![tactic(auto)]
+
 mod erasing;
 mod putting;
 

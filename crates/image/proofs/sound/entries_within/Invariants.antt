@@ -1,0 +1,11 @@
+-- The loop carries `end_at` of i, and its flag is `ordered` of the first i entries (`end_next`, `ordered_next`).
+-- Assumes nothing.
+use Rattle.std.proofs.Common.{◌≡◌, ◌-◌, ◌≤◌}
+use Rattle.image.specs.Image.{end_at, ordered}
+use Rattle.image.proofs.sound.entries_within.Given as goal
+
+abbrev pub invariant-loop-i : goal.invariant-loop-i
+invariant-loop-i l = (l.i ≤ l.n) × (l.before ≡ end_at l.s l.i) × (l.ok ≡ ordered l.s l.i)
+
+abbrev pub decreases-loop-i : goal.decreases-loop-i
+decreases-loop-i l = l.n - l.i

@@ -1,0 +1,11 @@
+-- The loop has put `done` blocks, and the definition's outcome is that of the rest from the image that now stands (`Sending`).
+-- Assumes nothing.
+use Prim.Native.Nat.{◌-◌, ◌≤◌}
+use Rattle.transfer.proofs.Sent.{Sending}
+use Rattle.transfer.proofs.puts.put_blocks.Given as goal
+
+abbrev pub invariant-loop-done : goal.invariant-loop-done
+invariant-loop-done l = (l.done ≤ l.n) × Sending l.p l.n l.b l.sent l.initial.s l.done l.s
+
+abbrev pub decreases-loop-done : goal.decreases-loop-done
+decreases-loop-done l = l.n - l.done

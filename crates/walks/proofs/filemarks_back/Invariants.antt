@@ -1,0 +1,12 @@
+-- Over filemarks back from p: the loop is along the walk, and ends as the walk does.
+-- Assumes nothing.
+use Prim.Native.Nat.{◌-◌}
+use Rattle.objects.specs.Movement.{filemarks}
+use Rattle.walks.proofs.Along.{Along, back}
+use Rattle.walks.proofs.filemarks_back.Given as goal
+
+abbrev pub invariant-loop-left : goal.invariant-loop-left
+invariant-loop-left l = Along back filemarks l.s l.p l.n l.at l.left
+
+abbrev pub decreases-loop-left : goal.decreases-loop-left
+decreases-loop-left l = l.at
