@@ -28,9 +28,6 @@ each_line() { # COMMAND...
 
 # ---- rt
 
-# One proof more at a time than there are processors: each waits for its files now and then.
-export RT_JOBS=${RT_JOBS-$(($(nproc) + 1))}
-
 # The crates that these are proved with, themselves included: all that crates.txt lists if none is named.
 crates_for() { # NAME...
     NAMES=$* awk '
@@ -43,10 +40,10 @@ crates_for() { # NAME...
         }
         { sub(/#.*/, ""); at = index($0, ":") }
         at {
-            name = substr($0, 1, at - 1)
-            gsub(/[ \t]/, "", name)
-            uses[name] = substr($0, at + 1)
-            listed = listed " " name
+            # After the name may stand what kind of crate it is.
+            split(substr($0, 1, at - 1), head, " ")
+            uses[head[1]] = substr($0, at + 1)
+            listed = listed " " head[1]
         }
         END {
             count = split(ENVIRON["NAMES"] == "" ? listed : ENVIRON["NAMES"], named, " ")
@@ -59,48 +56,86 @@ count_edits() {
     if [ -e "${found[0]}" ]; then echo "${#found[@]}"; else echo 0; fi
 }
 
-# What rt has begun since it was started, and not told of yet: it tells of crates, and of edits, some at a time.
+# What rt proves in this checkout, by the provers that run: each runs in its crate's folder, or, for an edit, on a copy
+# among the temporary files, whose name has rt's own number. All have the crate's name among their words.
 at_work() {
-    local changed file name
-    while read -r changed file; do
-        name=${file#target/log/} name=${name#target/must-fail/} name=${name%.*}
-        [ "$changed" -lt "$began" ] || [ -n "${told[$name]-}" ] || echo "$name"
-    done < <(stat -c '%Y %n' target/log/*.say target/must-fail/*/*.out 2>/dev/null)
+    local top process folder name
+    top=$(pwd -P)
+    while read -r process folder; do
+        name=$(tr '\0' '\n' 2>/dev/null <"$process/cmdline" | sed -n '/^--crate-name$/ { n; p; q }')
+        if [[ $folder =~ /rt-edit-([0-9]+)- ]]; then
+            [ "$(readlink "/proc/${BASH_REMATCH[1]}/cwd")" = "$top" ] && [ -n "$name" ] && echo "the edits of $name"
+        elif [ -n "$name" ]; then
+            echo "$name"
+        fi
+    done < <(find /proc/[0-9]*/cwd -maxdepth 0 \( -lname "$top/crates/*" -o -lname '*/rt-edit-*' \) \
+        -printf '%h %l\n' 2>/dev/null) | sort -u
 }
 
 say_at_work() {
-    local names=''
-    [ "$began" -eq 0 ] || names=$(at_work | paste -s -d ' ')
-    echo "    .. at work${names:+ on $names} (elapsed $(elapsed))"
+    local names
+    names=$(at_work | paste -s -d ',')
+    echo "    .. at work${names:+ on ${names//,/, }} (elapsed $(elapsed))"
 }
 
 # Crates that need no proof again come in a row, and are told of together.
 say_unchanged() {
+    end_block
     [ "$unchanged" -gt 0 ] || return 0
     printf '[%*d of %d] proved earlier and unchanged: %d (elapsed %s)\n' \
         "${#crates}" "$crates_told" "$crates" "$unchanged" "$(elapsed)"
     unchanged=0
 }
 
-say_crate() { # NAME WORDS
+say_crate() { # WORDS
     say_unchanged
-    told[$1]=1 crates_told=$((crates_told + 1))
-    printf '[%*d of %d] %s (elapsed %s)\n' "${#crates}" "$crates_told" "$crates" "$2" "$(elapsed)"
+    crates_told=$((crates_told + 1))
+    printf '[%*d of %d] %s (elapsed %s)\n' "${#crates}" "$crates_told" "$crates" "$1" "$(elapsed)"
 }
 
-say_edit() { # NAME WORDS
+say_edit() { # WORDS
     say_unchanged
-    told[$1]=1 edits_told=$((edits_told + 1))
-    printf '[%*d of %d] %s (elapsed %s)\n' "${#edits}" "$edits_told" "$edits" "$2" "$(elapsed)"
+    edits_told=$((edits_told + 1))
+    printf '[%*d of %d] %s (elapsed %s)\n' "${#edits}" "$edits_told" "$edits" "$1" "$(elapsed)"
+}
+
+# rt all has a block of lines for each crate that has ended, under its name: none below that if it was proved earlier.
+# Which crates failed is said at the end, where it sums up.
+end_block() {
+    local name=$block
+    block=''
+    [ -n "$name" ] || return 0
+    case $outcome in
+    none) crates_told=$((crates_told + 1)) unchanged=$((unchanged + 1)) ;;
+    proved) say_crate "$name proved" ;;
+    *) say_crate "$name has ended, and what it said is above" ;;
+    esac
+}
+
+note_block() { # LINE
+    if [[ $1 =~ ^==\ ([a-z0-9_]+)$ ]]; then
+        end_block
+        [ "${BASH_REMATCH[1]}" = summary ] || block=${BASH_REMATCH[1]}
+        outcome=none
+    elif [[ $1 == logic=proved\ * ]]; then
+        outcome=proved
+    elif [ "$outcome" = none ] && [[ $1 != *': begins with what a check kept in '* ]]; then
+        outcome=other
+    fi
 }
 
 # What is proved, function by function, and what it was proved with: nothing of it tells of a failure.
 is_detail() { # LINE
-    [[ $1 =~ ^[a-z]+\ [^\ ]+:\ proved$ ||
-        $1 =~ ^library\ [^\ ]+:\ modules\ loaded=[0-9]+\ checked=[0-9]+$ ||
+    [[ $1 =~ ^==\ [a-z0-9_]+(:\ its\ tests)?$ ||
+        $1 =~ ^[a-z]+\ [^\ ]+:\ proved(,\ may\ abort)?$ ||
+        $1 =~ ^empty\ contracts:\ 0\ found\;\ tried\  ||
+        $1 =~ ^(library|statements|crate)\ [^\ ]+:\ modules\ loaded=[0-9]+\ checked=[0-9]+$ ||
         $1 =~ ^logic\ [^\ ]+:\ libraries=[0-9]+\ files=[0-9]+\ sum=[0-9a-f]+$ ||
         ($1 =~ ^logic=proved\  && ! $1 =~ \ foreign=) ||
+        $1 =~ ^only=0\ proved=0$ || $1 =~ ^so\ far:\  || $1 =~ ^checked\ [^\ ]+,\ [0-9]+\ of\ [0-9]+$ ||
         $1 =~ ^axioms\ [^\ ]+:\  || $1 =~ ^linked\ target= ||
+        $1 =~ ^rt:\ chose\ --jobs\ [0-9]+\ for\  || $1 =~ ^[a-z0-9_]+:\ ok$ ||
+        $1 =~ ^rt:\ [a-z0-9_]+:\ begins\ with\ what\ a\ check\ kept\  ||
         $1 =~ ^[^\ ]+:\ note:\ .rw.\ took\ the\ first\ instance ||
         $1 == 'note: no function with a body is declared, so nothing was lowered' ]]
 }
@@ -108,20 +143,19 @@ is_detail() { # LINE
 # A line of rt that is none of those known is shown as it is.
 show_line() { # LINE
     local crate='^rt: ([A-Za-z0-9_]+)' edit='^rt: must-fail ([^: ]+)'
-    if [[ $1 =~ $crate\ proved\ \(unchanged ]]; then
-        told[${BASH_REMATCH[1]}]=1 crates_told=$((crates_told + 1)) unchanged=$((unchanged + 1))
-    elif [[ $1 =~ $crate\ proved\ \(([0-9]+)\ s\)$ ]]; then
-        say_crate "${BASH_REMATCH[1]}" "${BASH_REMATCH[1]} proved in ${BASH_REMATCH[2]} s"
+    [ "$verb" != all ] || note_block "$1"
+    if [[ $1 =~ $crate\ is\ kept: ]]; then
+        crates_told=$((crates_told + 1)) unchanged=$((unchanged + 1))
+    elif [[ $1 =~ $crate\ proved$ ]]; then
+        say_crate "${BASH_REMATCH[1]} proved"
     elif [[ $1 =~ $crate\ NOT\ PROVED ]]; then
-        say_crate "${BASH_REMATCH[1]}" "${1#rt: }"
-    elif [[ $1 =~ ^rt:\ (target/staticlib/lib([A-Za-z0-9_]+)\.a)\ has\  ]]; then
-        say_crate "${BASH_REMATCH[2]}" "${BASH_REMATCH[2]} proved, and written as ${BASH_REMATCH[1]}"
+        say_crate "${1#rt: }"
     elif [[ $1 =~ $edit:\ refused ]]; then
-        say_edit "${BASH_REMATCH[1]}" "refused: ${BASH_REMATCH[1]}"
+        say_edit "refused: ${BASH_REMATCH[1]}"
     elif [[ $1 =~ $edit: ]]; then
-        say_edit "${BASH_REMATCH[1]}" "${1#rt: }"
+        say_edit "${1#rt: }"
     elif ! is_detail "$1"; then
-        say_unchanged
+        [ -n "$block" ] || say_unchanged
         if [[ $1 == 'rt: '* ]]; then
             echo "${1#rt: } (elapsed $(elapsed))"
         elif [[ $1 =~ ^[0-9]+\ passed,\ 0\ failed$ ]]; then
@@ -133,45 +167,74 @@ show_line() { # LINE
     fi
 }
 
-show_rt() { # CRATES EDITS
-    local crates=$1 edits=$2 crates_told=0 edits_told=0 unchanged=0 began
-    local -A told=()
-    printf -v began '%(%s)T' -1
+show_rt() { # VERB CRATES EDITS
+    local verb=$1 crates=$2 edits=$3 crates_told=0 edits_told=0 unchanged=0 block='' outcome=none
     each_line show_line
     say_unchanged
 }
 
-# Runs rt, shows how far it is, and keeps the whole of what it prints in a file; shows much of it if rt fails. Returns
-# rt's own status. rt ci removes target/ and the file may lie there, so it is written when rt has ended.
-rt_shown() { # FILE WORDS-OF-RT...
-    local file=$1 crates edits=0 status
-    shift
-    if [ "$1" = ci ]; then
+# Runs rt in a folder, shows how far it is, and keeps the whole of what it prints in a file; shows much of it if rt
+# fails. Returns rt's own status. A program that rt runs has the crate's own input.
+rt_shown() { # FILE FOLDER WORDS-OF-RT...
+    local file=$1 folder=$2 words="rt ${*:3}" crates=0 edits=0 input=/dev/null status
+    shift 2
+    case $1 in
+    ci)
         crates=$(crates_for | wc -l) edits=$(count_edits)
-        echo "\$ rt $*: $crates crates to prove, then $edits edits to refuse"
-    else
-        crates=$(crates_for "${@:2}" | wc -l)
-        echo "\$ rt $*: $crates crates"
-    fi
-    said=$(mktemp) || return 2
-    trap 'rm -f "$said"' EXIT
-    rt "$@" 2>&1 </dev/null | tee "$said" | show_rt "$crates" "$edits"
+        echo "\$ $words: $crates crates to prove, and $edits edits to refuse"
+        ;;
+    all)
+        crates=$(crates_for "${folder#crates/}" | wc -l)
+        echo "\$ $words in $folder: $crates crates to prove"
+        ;;
+    *)
+        [ "$1" != run ] || [ ! -e "$folder/stdin" ] || input=$folder/stdin
+        echo "\$ $words in $folder"
+        ;;
+    esac
+    mkdir -p "$(dirname "$file")" || return 2
+    (cd "$folder" && exec rt "$@") <"$input" 2>&1 | tee "$file" | show_rt "$1" "$crates" "$edits"
     status=${PIPESTATUS[0]}
-    { mkdir -p "$(dirname "$file")" && cat "$said" >"$file" && rm "$said"; } || return 2
     [ "$status" -ne 0 ] || return 0
-    echo "rt $1 ended with status $status. The last lines that it printed:"
+    echo "$words ended with status $status. The last lines that it printed:"
     tail -n 200 "$file" | awk 1 # which ends a last line that was cut short
-    echo "rt $1 ended with status $status. The whole of what it printed is in $file"
+    echo "$words ended with status $status. The whole of what it printed is in $file"
     return "$status"
 }
 
-# Proves these crates, and the library, and writes it. rt check proves side by side what does not depend on each other,
-# so all but the library's own crate is left to it; rt staticlib proves that one.
-library_shown() { # FOLDER CRATE...
-    local used
-    used=$(sed -n 's/^stormtoggle://p' crates.txt)
-    # shellcheck disable=SC2086
-    rt_shown "$1/proofs.log" check $used "${@:2}" && rt_shown "$1/library.log" staticlib stormtoggle
+# ---- what the C side links and runs
+
+# As many crates at a time as there are processors, and 4 GiB of free memory for each.
+crates_at_once() {
+    local fit
+    fit=$(awk '/^MemAvailable:/ { print int($2 / 4194304) }' /proc/meminfo)
+    if [ "${fit:-1}" -lt 1 ]; then fit=1; fi
+    if [ "$fit" -lt "$(nproc)" ]; then echo "$fit"; else nproc; fi
+}
+
+# Proves a crate with all that it stands on, builds what is made of it, and puts that where the C side looks. rt lib and
+# rt run prove one crate after the other, so what must be proved is left to rt all, and they build over what that kept.
+# An older one at that place goes first: where this fails, none stands there.
+made_shown() { # FOLDER CRATE VERB MADE PLACE
+    rm -f "$5/$4"
+    rt_shown "$1/$2.proofs.log" "crates/$2" all check --jobs "$(crates_at_once)" &&
+        rt_shown "$1/$2.log" "crates/$2" "$3" &&
+        mkdir -p "$5" && cp "crates/$2/out/$4" "$5/" &&
+        echo "$2 is proved and built: $5/$4 (elapsed $(elapsed))"
+}
+
+library_shown() { # FOLDER
+    made_shown "$1" stormtoggle lib libstormtoggle.a target/staticlib
+}
+
+listing_shown() { # FOLDER
+    made_shown "$1" listing run listing target/bin
+}
+
+# Whether the library is there, and nothing that it is proved from is newer. What rt keeps in out/ is no source.
+has_library() {
+    local made=target/staticlib/libstormtoggle.a
+    [ -e "$made" ] && [ -z "$(find crates.txt crates/*/{src,specs,proofs} -newer "$made" -print -quit 2>/dev/null)" ]
 }
 
 # ---- packages
