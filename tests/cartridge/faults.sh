@@ -1,9 +1,10 @@
 #!/usr/bin/env bash
 # faults.sh: shows that cartridge.sh can fail: the tool as it is passes, and with each of these slips in its
-# sources it does not. Needs the static library and the listing program to be built.
+# sources it does not. Builds the static library and the listing program first.
 set -u
 cd "$(dirname "$0")/../.." || exit 2
 . tests/host.sh
+{ library_shown target/host && listing_shown target/host; } || exit 2
 
 # File, edit, what it does.
 slips=(
