@@ -12,7 +12,7 @@ use borrow.Author.Tests.{eq-eqb, ne_eqb, le-ltb}
 use lib.Dec.{eqb}
 use lib.IntN.{pos}
 use lib.ListN.{length}
-use Rattle.words.specs.Words.{be, bytes, over, zeros}
+use Rattle.words.specs.Words.{be, bytes, zeros}
 use Rattle.words.specs.Signed.{signed}
 use Rattle.answers.specs.Answers.{answered, done, first}
 use Rattle.objects.specs.Object.{Object, filemark, block}
@@ -33,9 +33,9 @@ use Rattle.codes.specs.Fields.{space_code_of, space_count_of, changes_partition,
 use Rattle.commands.specs.Act.{Seen, at, offered, goes_down, space_tells, over_filemarks, movement, spacing, target_of, destination16, locate_tells, locating, act, events_of}
 use Rattle.commands.specs.Tests.{tests, field_error, taken, reply_length, needed}
 use Rattle.commands.specs.Step.{status_of, kept_of, acted, unless, step}
-use Rattle.commands.specs.Call.{lent, Result, partition, looks_at, seen_of, nothing, seen, inserted, laid_out, applied, step_of, called, command_call, command_tests}
+use Rattle.commands.specs.Call.{lent, Result, looks_at, seen_of, seen, inserted, laid_out, applied, step_of, called, command_call, command_tests}
 use Rattle.commands.proofs.Crossed.{call_fits}
-use Rattle.commands.proofs.Faultless.{back, no_fault, empty_whole}
+use Rattle.commands.proofs.Faultless.{back, empty_whole}
 use Rattle.history.specs.History.{cartridge, is_good}
 use Rattle.history.specs.Demand3.{Mounted}
 use Rattle.alike.specs.Alike.{ToFile, OverMarks, Rewinds}

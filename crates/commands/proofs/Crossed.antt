@@ -3,11 +3,11 @@
 -- Assumes nothing.
 use Prim.Native.Nat.{ℕ, ◌+◌, ◌^◌, ◌≤◌, ◌<◌}
 use native.Mathlib.Omega.{arith}
-use mathlib.Core.Path.{◌≡◌, refl, sym, ap, ◌∙◌, subst}
+use mathlib.Core.Path.{◌≡◌, refl, ap, ◌∙◌}
 use mathlib.Core.Logic.{◌⊎◌, inl, inr}
 use mathlib.Core.Bool.{Bool, true, false, cond, ◌&&◌, ◌||◌}
 use mathlib.Core.Option.{Option, none, some}
-use mathlib.Core.List.{List, [], ◌∷◌}
+use mathlib.Core.List.{List}
 use borrow.Author.Tests.{eqb-false, not-false}
 use lib.Dec.{eqb}
 use lib.IntN.{ℤ}
@@ -18,7 +18,6 @@ use Rattle.objects.specs.Room.{room_of, zone_in}
 use Rattle.objects.specs.Movement.{blocks, filemarks, Move, space, to_end_of_data}
 use Rattle.objects.proofs.Walk.{Went, went, went_end}
 use Rattle.image.specs.Image.{count, objects}
-use Rattle.image.proofs.Facts.{Sound}
 use Rattle.image.proofs.Objects.{length_objects}
 use Rattle.record.specs.declared.drive.Drive.{Drive}
 use Rattle.record.specs.Record.{decode_of}

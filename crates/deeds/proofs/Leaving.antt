@@ -5,7 +5,6 @@ use mathlib.Core.Path.{◌≡◌, refl}
 use mathlib.Core.Bool.{Bool, true, false}
 use mathlib.Core.List.{List}
 use Rattle.answers.specs.Answers.{check_condition}
-use Rattle.objects.specs.Movement as M
 use Rattle.sense.specs.declared.Sense.{Sense}
 use Rattle.sense.specs.Sense.{sense_bytes, empty_sense}
 use Rattle.record.specs.declared.drive.Drive.{Drive}

@@ -19,7 +19,7 @@ use Rattle.words.specs.Words.{over}
 use Rattle.words.proofs.Laws.{over_nil, drop_over, length_over}
 use Rattle.objects.specs.Object.{Object, filemark, block, bytes_in}
 use Rattle.objects.specs.Room.{room_of, zone_in}
-use Rattle.objects.specs.Transfer.{whole, odd_length, Run, halted, whole_before, run_of}
+use Rattle.objects.specs.Transfer.{odd_length, Run, halted, whole_before, run_of}
 use Rattle.sense.specs.declared.Sense.{Sense}
 use Rattle.sense.specs.Sense.{illegal_request, invalid_list_field, unqualified, plainly}
 use Rattle.record.specs.declared.drive.Drive.{Drive}
@@ -32,7 +32,7 @@ use Rattle.commands.specs.Parameters.{whole_length, list_right, new_length}
 use Rattle.commands.specs.Act.{Seen, Deed, good, checked, giving, carrying, at, unattended, with_length, warned, overflowed, read_variable, read_run, reading, reply_of, goes_down, wrote, writing, marking, spacing, locating, selecting, act}
 use Rattle.commands.specs.Tests.{bytes_asked, reply_length, needed, tests}
 use Rattle.commands.specs.Step.{status_of, acted, check_answer}
-use Rattle.commands.specs.Call.{Lent, lent, Result, result_of, seen, looks_at, applied, written, command_tests, command_call}
+use Rattle.commands.specs.Call.{Lent, Result, result_of, seen, looks_at, applied, written, command_tests, command_call}
 use Rattle.commands.proofs.Passed.{Passed, passed}
 use Rattle.image.proofs.Tests.{both}
 use Rattle.commands.proofs.Replies.{reply_length_lem}

@@ -1,16 +1,15 @@
 -- How far a call went (Q-10): every call's answer says what the definition says of its fourth number; and every house service answers 0 there.
 -- Assumes nothing.
 use Prim.Native.Nat.{ℕ, zero, suc, ◌+◌, ◌≤◌, zero-le}
-use native.Mathlib.Nat.{le_refl, add-zero}
 use native.Mathlib.Omega.{arith}
-use mathlib.Core.Path.{◌≡◌, refl, sym, ap, ◌∙◌, subst}
+use mathlib.Core.Path.{◌≡◌, refl, sym, ap, ◌∙◌}
 use mathlib.Core.Logic.{◌≢◌, ◌⊎◌, inl, inr}
 use mathlib.Core.Bool.{Bool, true, false, cond}
 use mathlib.Core.Option.{Option, none, some}
 use mathlib.Core.List.{List, [], ◌∷◌}
-use borrow.Author.Tests.{eq-eqb, ne_eqb}
+use borrow.Author.Tests.{ne_eqb}
 use lib.Dec.{eqb}
-use lib.IntN.{ℤ, pos, negsuc, neg_ℤ, nat_abs}
+use lib.IntN.{ℤ, pos, negsuc, nat_abs}
 use lib.ListN.{length, drop}
 use Rattle.answers.specs.declared.Answer.{Answer}
 use Rattle.answers.specs.Answers.{first}
@@ -19,24 +18,22 @@ use Rattle.objects.specs.Object.{Object, filemark, block}
 use Rattle.objects.specs.Movement as M
 use Rattle.objects.proofs.Residue.{size_back_lem}
 use Rattle.objects.proofs.Walk.{counted_crossed, still}
-use Rattle.image.specs.Image.{count, objects}
 use Rattle.image.proofs.Objects.{length_objects}
 use Rattle.record.specs.declared.drive.Drive.{Drive}
 use Rattle.record.specs.Record.{decode_of, with_sense}
 use Rattle.codes.specs.declared.operation.Operation.{Operation}
-use Rattle.codes.specs.declared.operation.Operation.TheVariants.{Space, Space16}
 use Rattle.codes.specs.Codes.{code_of, operation_of}
 use Rattle.codes.specs.Fields.{space_code_of}
 use Rattle.house.specs.Mount.{fresh_call, mount_call}
 use Rattle.house.specs.Images.{blank_call, protect_call}
 use Rattle.house.proofs.Answered.{fresh_answers, mount_answers, blank_answers, protect_answers}
 use Rattle.commands.specs.Stop.{Stop}
-use Rattle.commands.specs.Act.{Seen, over_blocks, to_end, movement, spacing, act}
+use Rattle.commands.specs.Act.{over_blocks, to_end, movement, spacing, act}
 use Rattle.commands.specs.Call.{Lent, Result, partition, seen_of, seen, command_call, command_tests}
 use Rattle.commands.specs.Conditions.{Acts}
 use Rattle.commands.proofs.Exact.{acts_exactly}
 use Rattle.commands.proofs.Faultless.{back, place_small}
-use Rattle.commands.proofs.Crossed.{act_crosses, went_by, stopped_crosses, acted_crosses, Stands, space_stands, crossed_most}
+use Rattle.commands.proofs.Crossed.{act_crosses, went_by, stopped_crosses, acted_crosses, space_stands, crossed_most}
 use Rattle.history.proofs.Ended.{Finished, by_number, by_sense, by_act, ended}
 use Rattle.exact.specs.Residues.{count_of, place_after}
 use Rattle.exact.specs.Crossed.{Spaces, movement_of, apart, uncounted_mark, Crossed}

@@ -26,7 +26,7 @@ use Rattle.commands.specs.Stop.{Stop, refuse, attend, fault}
 use Rattle.commands.specs.Act.{Deed, unattended, act}
 use Rattle.commands.specs.Tests.{tests}
 use Rattle.commands.specs.Step.{status_of, kept_of, stopped, acted}
-use Rattle.commands.specs.Call.{Lent, Result, seen, applied, written, command_call, command_tests}
+use Rattle.commands.specs.Call.{Lent, Result, seen, applied, command_call, command_tests}
 use Rattle.commands.specs.Conditions.{AttentionWaits, CodeNotServed, FieldWrong, ListLengthWrong, NothingLoaded, NoSuchPartition, WriteProtected}
 use Rattle.commands.specs.Conditions.{ComesAttention, ComesCode, ComesFields, ComesListLength, ComesCartridge, ComesPartition, ComesProtection}
 use Rattle.commands.proofs.Faultless.{sense_whole, kept_whole}

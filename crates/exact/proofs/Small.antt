@@ -23,9 +23,8 @@ use Rattle.image.proofs.Facts.{Sound, end_lt}
 use Rattle.image.proofs.Objects.{length_objects, end_bytes}
 use Rattle.record.specs.declared.drive.Drive.{Drive}
 use Rattle.record.specs.Record.{attention_at, sense_at, no_attention, decode_of}
-use Rattle.sense.specs.declared.Sense.{Sense}
 use Rattle.sense.specs.Sense.{sense_length, illegal_request, invalid_list_field, unqualified, parts_of, plainly, attention_sense}
-use Rattle.sense.specs.Descriptors.{descriptor_bytes, in_form, both_length, stream_length}
+use Rattle.sense.specs.Descriptors.{descriptor_bytes, in_form, both_length}
 use Rattle.sense.proofs.Forms.{form_most}
 use Rattle.codes.specs.declared.operation.Operation.{Operation}
 use Rattle.codes.specs.declared.operation.Operation.TheVariants.{TestUnitReady, Rewind, RequestSense, ReadBlockLimits, Read, Write, WriteFilemarks, Space, ModeSelect, Erase, ModeSense, LoadUnload, Locate, ReadPosition, Space16, Locate16, NotServed}

@@ -1,7 +1,7 @@
 -- The call by a largest block of 65,536 bytes and by one of 1,048,576: the same, where neither the record, nor a partition lent, nor the command has to
 -- do with a larger block.
 -- Assumes nothing.
-use Prim.Native.Nat.{ℕ, ◌+◌, ◌≤◌}
+use Prim.Native.Nat.{ℕ, ◌≤◌}
 use native.Mathlib.Omega.{arith}
 use mathlib.Core.Path.{◌≡◌, refl, sym, ◌∙◌}
 use mathlib.Core.Bool.{Bool, true, false, cond, not, ◌&&◌, ◌||◌}

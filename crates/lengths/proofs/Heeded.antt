@@ -16,7 +16,6 @@ use Rattle.words.specs.Words.{over}
 use Rattle.answers.specs.Answers.{answered, first}
 use Rattle.answers.proofs.First.{not_both}
 use Rattle.objects.specs.Object.{block}
-use Rattle.image.specs.Image.{objects}
 use Rattle.record.specs.declared.drive.Drive.{Drive}
 use Rattle.record.specs.Record.{decode_of, encode_of, with_sense}
 use Rattle.codes.specs.declared.operation.Operation.{Operation}

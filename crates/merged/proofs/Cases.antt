@@ -1,6 +1,6 @@
 -- Where two SPACEs may not be merged: cases, computed, against each premise of Q-12's law; so none of these premises can be left out.
 -- Assumes nothing.
-use Prim.Native.Nat.{ℕ, ◌+◌}
+use Prim.Native.Nat.{ℕ}
 use native.Mathlib.Omega.{arith}
 use mathlib.Core.Path.{◌≡◌, refl, ap}
 use mathlib.Core.List.{List, [], ◌∷◌, ◌++◌}

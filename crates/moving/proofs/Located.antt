@@ -15,7 +15,7 @@ use Rattle.codes.specs.declared.operation.Operation.TheVariants.{Rewind}
 use Rattle.codes.specs.Fields.{destination_of, identifier_of}
 use Rattle.walks.specs.declared.Why.TheVariants.{Done, Marked, Edge}
 use Rattle.walks.specs.declared.Walked.{Walked}
-use Rattle.walks.specs.Walks.{walk_of, why_of}
+use Rattle.walks.specs.Walks.{walk_of}
 use Rattle.deeds.specs.declared.deeds.Left.{Left}
 use Rattle.commands.specs.Act.{Seen, carrying, good, checked, at, at_partition, end_told, by_file, by_end, destination16, locate_tells, locating, act}
 use Rattle.commands.specs.Call.{seen_of, nothing}

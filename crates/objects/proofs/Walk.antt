@@ -10,7 +10,7 @@ use lib.Dec.{T, leb, leb→le}
 use lib.ListN.{length, drop, length-drop}
 use lib.IntN.{ℤ, pos, negsuc}
 use Rattle.objects.specs.Object.{Object, filemark, block}
-use Rattle.objects.specs.Movement.{Code, blocks, filemarks, done, edge, counting, uncounted, Walk, walk, before, ahead, astern, space, straight, to_end_of_data, to_object, to_file, Destination, object, file, end_of_data, locate}
+use Rattle.objects.specs.Movement.{Code, blocks, filemarks, done, edge, counting, uncounted, walk, before, ahead, astern, space, straight, to_end_of_data, to_object, to_file, Destination, object, file, end_of_data, locate}
 
 -- a walk crosses nothing that does not lie ahead
 pub walk_within : (c : Code) (n : ℕ) (xs : List Object) → (walk c n xs).crossed ≤ length xs

@@ -1,7 +1,7 @@
 -- What whoever holds a drive knows of its fields beyond its record: ranges, and the count of its sense bytes. From `c.good.0` of a
 -- parameter or `c.CALL.ok` of a result.
 -- Assumes nothing.
-use mathlib.Core.Path.{◌≡◌, refl, sym, ap, ◌∙◌}
+use mathlib.Core.Path.{◌≡◌, refl, ap}
 use mathlib.Core.List.{List, [], ◌∷◌, map}
 use Prim.Native.Nat.{ℕ, suc, ◌<◌, ◌^◌}
 use lib.ListN.{length}

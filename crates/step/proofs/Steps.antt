@@ -28,7 +28,7 @@ use Rattle.order.specs.declared.Stop.{Stop}
 use Rattle.order.specs.declared.Stop.TheVariants.{Refuse, Attend, Fault, Pass}
 use Rattle.order.specs.Stops.{stop_of}
 use Rattle.commands.proofs.Long.{locate_long_lem}
-use Rattle.commands.proofs.Classes.{named, unchanged}
+use Rattle.commands.proofs.Classes.{unchanged}
 use Rattle.commands.proofs.Ends.{step_stops, step_acts}
 use Rattle.step.specs.declared.stepping.Served.{Served}
 use Rattle.step.specs.Served.{outcome_of, answer_of, guarded_now}

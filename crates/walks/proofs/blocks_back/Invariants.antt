@@ -1,6 +1,5 @@
 -- Over blocks back from p: the loop is along the walk, and ends as the walk does.
 -- Assumes nothing.
-use Prim.Native.Nat.{◌-◌}
 use Rattle.objects.specs.Movement.{blocks}
 use Rattle.walks.proofs.Along.{Along, back}
 use Rattle.walks.proofs.blocks_back.Given as goal

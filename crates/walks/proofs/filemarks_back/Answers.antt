@@ -1,7 +1,6 @@
 -- Over filemarks back from p: the loop is along the walk, and ends as the walk does.
 -- Assumes nothing.
 use Prim.Native.Nat.{◌-◌}
-use mathlib.Core.Logic.{⊎_elim}
 use native.Mathlib.Omega.{arith}
 use Rattle.objects.specs.Movement.{filemarks}
 use Rattle.walks.proofs.Along.{back, entry_in, starts, ends_edge, ends_done, filemark_counted, block_passed}
@@ -19,9 +18,10 @@ is_filemark-marked-requires c = entry_in c.args.s.now (c.loop-left.at - 1) c.req
 
 pub loop-left-preserved : goal.loop-left-preserved
 loop-left-preserved c =
-    elim c.if-marked.branch
-    [ then-marked w ↦ rw w.left-is (filemark_counted back c.loop-left-test.true (omega arith) c.is_filemark-marked.result c.is_filemark-marked.ensures c.loop-left.invariant w.if-marked.true)
-    | else-marked w ↦ rw w.left-is (block_passed back c.loop-left-test.true (omega arith) c.is_filemark-marked.result c.is_filemark-marked.ensures c.loop-left.invariant w.if-marked.false) ]
+    elim c.if-marked.branch [
+      | then-marked w ↦ rw w.left-is (filemark_counted back c.loop-left-test.true (omega arith) c.is_filemark-marked.result c.is_filemark-marked.ensures c.loop-left.invariant w.if-marked.true)
+      | else-marked w ↦ rw w.left-is (block_passed back c.loop-left-test.true (omega arith) c.is_filemark-marked.result c.is_filemark-marked.ensures c.loop-left.invariant w.if-marked.false)
+    ]
 
 pub returns : goal.returns
 returns c = ends_done back c.loop-left.invariant (omega arith)

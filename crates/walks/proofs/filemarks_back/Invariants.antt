@@ -1,6 +1,5 @@
 -- Over filemarks back from p: the loop is along the walk, and ends as the walk does.
 -- Assumes nothing.
-use Prim.Native.Nat.{◌-◌}
 use Rattle.objects.specs.Movement.{filemarks}
 use Rattle.walks.proofs.Along.{Along, back}
 use Rattle.walks.proofs.filemarks_back.Given as goal

@@ -1,7 +1,5 @@
 -- Over filemarks on from p: the loop is along the walk, and ends as the walk does.
 -- Assumes nothing.
-use Prim.Native.Nat.{◌-◌}
-use mathlib.Core.Logic.{⊎_elim}
 use native.Mathlib.Omega.{arith}
 use Rattle.objects.specs.Movement.{filemarks}
 use Rattle.walks.proofs.Along.{on, trailer_in, entry_in, starts, ends_edge, ends_done, filemark_counted, block_passed}
@@ -22,9 +20,10 @@ is_filemark-marked-requires c = entry_in c.args.s.now c.loop-left.at c.requires.
 
 pub loop-left-preserved : goal.loop-left-preserved
 loop-left-preserved c =
-    elim c.if-marked.branch
-    [ then-marked w ↦ rw w.left-is (filemark_counted on c.loop-left-test.true (omega arith) c.is_filemark-marked.result c.is_filemark-marked.ensures c.loop-left.invariant w.if-marked.true)
-    | else-marked w ↦ rw w.left-is (block_passed on c.loop-left-test.true (omega arith) c.is_filemark-marked.result c.is_filemark-marked.ensures c.loop-left.invariant w.if-marked.false) ]
+    elim c.if-marked.branch [
+      | then-marked w ↦ rw w.left-is (filemark_counted on c.loop-left-test.true (omega arith) c.is_filemark-marked.result c.is_filemark-marked.ensures c.loop-left.invariant w.if-marked.true)
+      | else-marked w ↦ rw w.left-is (block_passed on c.loop-left-test.true (omega arith) c.is_filemark-marked.result c.is_filemark-marked.ensures c.loop-left.invariant w.if-marked.false)
+    ]
 
 pub returns : goal.returns
 returns c = ends_done on c.loop-left.invariant (omega arith)

@@ -1,6 +1,6 @@
 -- The loop has counted the top bits of the first i entries (`filemarks_next`).
 -- Assumes nothing.
-use Rattle.std.proofs.Common.{◌≡◌, ◌-◌, refl, ap, ◌∙◌, arith}
+use Rattle.std.proofs.Common.{◌≡◌, refl, ap, ◌∙◌, arith}
 use Rattle.image.proofs.Facts.{filemarks_next}
 use Rattle.image.specs.Image.{filemarks_before}
 use Rattle.image.proofs.entries.filemarks_before.Goals as goal

@@ -1,6 +1,5 @@
 -- The loop has copied the first i bytes from byte 12 on (`sense_turn`).
 -- Assumes nothing.
-use Prim.Native.Nat.{◌-◌}
 use mathlib.Core.Path.{refl}
 use native.Mathlib.Omega.{arith}
 use lib.ListN.{length-set, drop}

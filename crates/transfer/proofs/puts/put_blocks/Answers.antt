@@ -1,6 +1,5 @@
 -- The loop has put `done` blocks, and the definition's outcome is that of the rest from the image that now stands (`Sending`).
 -- Assumes nothing.
-use Prim.Native.Nat.{◌-◌}
 use mathlib.Core.Path.{sym, ◌∙◌}
 use native.Mathlib.Omega.{arith}
 use lib.ListN.{length}

@@ -1,6 +1,5 @@
 -- The loop has put `done` filemarks, and the definition's outcome is that of the rest from the image that now stands (`Marking`).
 -- Assumes nothing.
-use Prim.Native.Nat.{◌-◌}
 use mathlib.Core.Path.{sym, ◌∙◌}
 use native.Mathlib.Omega.{arith}
 use borrow.Author.Tests.{not-true, not-false}

@@ -1,6 +1,6 @@
 -- The loop has read `done` blocks into the start of `received`, and the run is they and the run from there on (`ReadOn`).
 -- Assumes nothing.
-use Prim.Native.Nat.{◌+◌, ◌-◌}
+use Prim.Native.Nat.{◌+◌}
 use mathlib.Core.Path.{sym, ◌∙◌}
 use native.Mathlib.Omega.{arith}
 use lib.ListN.{length}

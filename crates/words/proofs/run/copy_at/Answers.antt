@@ -1,6 +1,6 @@
 -- The loop has laid down the first i bytes of src (`paste`); at its end that is all of them.
 -- Assumes nothing.
-use Rattle.std.proofs.Common.{◌≡◌, ◌-◌, length, refl, ◌∙◌, add-one, arith, length-set}
+use Rattle.std.proofs.Common.{◌≡◌, length, refl, ◌∙◌, add-one, arith, length-set}
 use lib.Seq.{paste-zero, paste-suc, take-length}
 use Rattle.words.specs.Words.{over}
 use Rattle.words.proofs.run.copy_at.Goals as goal
