@@ -1,7 +1,7 @@
 // Reading all of an input and writing all of an output, in as many calls as that takes.
 #![tactic(auto)]
 
-ghost use Rattle.std.specs.Prelude.{ℕ, ◌<◌, ◌≤◌, length, take, IfOk, OnOk, OnErr};
+ghost use Rattle.std.specs.Prelude.{ℕ, ◌<◌, length, take, IfOk, OnOk, OnErr};
 ghost use Rattle.std.specs.Io.{ReadsAtMost};
 ghost use Rattle.std.specs.Io.KnownBytes.{Appends, Consumes, IsAtEnd};
 
@@ -17,7 +17,7 @@ pub fn read_all<R: Read>(reader: &mut R, buf: &mut [u8]) -> io::Result<usize>
     ensures len { ReadsAtMost result buf.new }
     ensures bytes { IfOk result (λ n. Consumes (R.remaining reader.old) (R.remaining reader.new) (take n buf.new)) }
     ensures end { IfOk result (λ n. n < length buf.new → IsAtEnd (R.remaining reader.new)) }
-    ensures err { OnErr result ((n : ℕ) × (n ≤ length buf.new)
+    ensures err { OnErr result ((n : ℕ) × (n < length buf.new)
         × Consumes (R.remaining reader.old) (R.remaining reader.new) (take n buf.new)) }
 {
     let mut done = 0;
@@ -41,7 +41,7 @@ pub fn read_all<R: Read>(reader: &mut R, buf: &mut [u8]) -> io::Result<usize>
 // error, and what was written until then is the start of buf.
 pub fn write_all<W: Write>(writer: &mut W, buf: &[u8]) -> io::Result<()>
     ensures bytes { OnOk result (Appends (W.contents writer.old) (W.contents writer.new) buf.now) }
-    ensures err { OnErr result ((n : ℕ) × (n ≤ length buf.now)
+    ensures err { OnErr result ((n : ℕ) × (n < length buf.now)
         × Appends (W.contents writer.old) (W.contents writer.new) (take n buf.now)) }
 {
     let mut done = 0;
