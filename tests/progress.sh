@@ -215,20 +215,21 @@ crates_at_once() {
 # Proves a crate with all that it stands on, builds what is made of it, and puts that where the C side looks. rt lib and
 # rt run prove one crate after the other, so what must be proved is left to rt all, and they build over what that kept.
 # An older one at that place goes first: where this fails, none stands there.
-made_shown() { # FOLDER CRATE VERB MADE PLACE
-    rm -f "$5/$4"
+made_shown() { # FOLDER CRATE MADE PLACE WORDS-OF-RT...
+    rm -f "$4/$3"
     rt_shown "$1/$2.proofs.log" "crates/$2" all check --jobs "$(crates_at_once)" &&
-        rt_shown "$1/$2.log" "crates/$2" "$3" &&
-        mkdir -p "$5" && cp "crates/$2/out/$4" "$5/" &&
-        echo "$2 is proved and built: $5/$4 (elapsed $(elapsed))"
+        rt_shown "$1/$2.log" "crates/$2" "${@:5}" &&
+        mkdir -p "$4" && cp "crates/$2/out/$3" "$4/" &&
+        echo "$2 is proved and built: $4/$3 (elapsed $(elapsed))"
 }
 
+# For every x86-64 processor: rt's own default asks for a newer one.
 library_shown() { # FOLDER
-    made_shown "$1" stormtoggle lib libstormtoggle.a target/staticlib
+    made_shown "$1" stormtoggle libstormtoggle.a target/staticlib lib --cpu x86-64
 }
 
 listing_shown() { # FOLDER
-    made_shown "$1" listing run listing target/bin
+    made_shown "$1" listing listing target/bin run
 }
 
 # Whether the library is there, and nothing that it is proved from is newer. What rt keeps in out/ is no source.

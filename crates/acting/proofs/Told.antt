@@ -29,30 +29,36 @@ abbrev keys : List Operation → List ℕ
 keys [] = []
 keys (x ∷ xs) = tag_of the_type x ∷ keys xs
 
--- the commands that need no cartridge, in the order of their variants
+-- the commands that need no cartridge, and all others, in the order of their variants
 abbrev apart : List Operation
 apart = RequestSense ∷ ReadBlockLimits ∷ ModeSelect ∷ ModeSense ∷ []
+
+abbrev others : List Operation
+others = TestUnitReady ∷ Rewind ∷ Read ∷ Write ∷ WriteFilemarks ∷ Space ∷ Erase ∷ LoadUnload ∷ Locate ∷ ReadPosition ∷ Space16 ∷ Locate16 ∷ NotServed ∷ []
 
 module _ (o : Operation) where
   pub told_apart : OneOf (keys apart) (tag_of the_type o) → needs_cartridge o ≡ false
   told_apart m = each o needs_cartridge false (keys apart) (search rules) m
 
--- what is none of the four needs a cartridge
-pub told_others : (o : Operation) → (o ≡ RequestSense → ⊥) → (o ≡ ReadBlockLimits → ⊥) → (o ≡ ModeSelect → ⊥) → (o ≡ ModeSense → ⊥) → needs_cartridge o ≡ true
-told_others TestUnitReady a b c d = refl
-told_others Rewind a b c d = refl
-told_others RequestSense a b c d = absurd (a refl)
-told_others ReadBlockLimits a b c d = absurd (b refl)
-told_others Read a b c d = refl
-told_others Write a b c d = refl
-told_others WriteFilemarks a b c d = refl
-told_others Space a b c d = refl
-told_others ModeSelect a b c d = absurd (c refl)
-told_others Erase a b c d = refl
-told_others ModeSense a b c d = absurd (d refl)
-told_others LoadUnload a b c d = refl
-told_others Locate a b c d = refl
-told_others ReadPosition a b c d = refl
-told_others Space16 a b c d = refl
-told_others Locate16 a b c d = refl
-told_others NotServed a b c d = refl
+  pub told_others : OneOf (keys others) (tag_of the_type o) → needs_cartridge o ≡ true
+  told_others m = each o needs_cartridge true (keys others) (λ v. refl, (λ v. refl, (λ v. refl, (λ v. refl, (λ v. refl, (λ v. refl, (λ v. refl, (λ v. refl, (λ v. refl, (λ v. refl, (λ v. refl, (λ v. refl, (λ v. refl, tt))))))))))))) m
+
+-- what is none of the four is one of the others
+pub among_others : (o : Operation) → (o ≡ RequestSense → ⊥) → (o ≡ ReadBlockLimits → ⊥) → (o ≡ ModeSelect → ⊥) → (o ≡ ModeSense → ⊥) → OneOf (keys others) (tag_of the_type o)
+among_others TestUnitReady a b c d = inl refl
+among_others Rewind a b c d = inr (inl refl)
+among_others RequestSense a b c d = absurd (a refl)
+among_others ReadBlockLimits a b c d = absurd (b refl)
+among_others Read a b c d = inr (inr (inl refl))
+among_others Write a b c d = inr (inr (inr (inl refl)))
+among_others WriteFilemarks a b c d = inr (inr (inr (inr (inl refl))))
+among_others Space a b c d = inr (inr (inr (inr (inr (inl refl)))))
+among_others ModeSelect a b c d = absurd (c refl)
+among_others Erase a b c d = inr (inr (inr (inr (inr (inr (inl refl))))))
+among_others ModeSense a b c d = absurd (d refl)
+among_others LoadUnload a b c d = inr (inr (inr (inr (inr (inr (inr (inl refl)))))))
+among_others Locate a b c d = inr (inr (inr (inr (inr (inr (inr (inr (inl refl))))))))
+among_others ReadPosition a b c d = inr (inr (inr (inr (inr (inr (inr (inr (inr (inl refl)))))))))
+among_others Space16 a b c d = inr (inr (inr (inr (inr (inr (inr (inr (inr (inr (inl refl))))))))))
+among_others Locate16 a b c d = inr (inr (inr (inr (inr (inr (inr (inr (inr (inr (inr (inl refl)))))))))))
+among_others NotServed a b c d = inr (inr (inr (inr (inr (inr (inr (inr (inr (inr (inr (inr refl)))))))))))

@@ -1,9 +1,8 @@
--- What whoever holds a drive knows of its fields beyond its record: ranges, and the count of its sense bytes. From `c.good.0` of a
--- parameter or `c.CALL.ok` of a result.
+-- What whoever holds a drive knows of its fields beyond its record: ranges, and the count of its sense bytes. From `c.well_formed.0` of a
+-- parameter.
 -- Assumes nothing.
-use mathlib.Core.Path.{◌≡◌, refl, ap}
-use mathlib.Core.List.{List, [], ◌∷◌, map}
-use Prim.Native.Nat.{ℕ, suc, ◌<◌, ◌^◌}
+use mathlib.Core.Path.{◌≡◌}
+use Prim.Native.Nat.{◌<◌, ◌^◌}
 use lib.ListN.{length}
 use denote.Laws.{Is}
 use denote.Struct.Laws as LL
@@ -16,10 +15,6 @@ pub record Bounded (d : Drive) : Type 0 where
   pub position_fits : d.position < 2 ^ 32
   pub block_fits : d.block_length < 2 ^ 32
   pub sense_length_lem : length d.sense ≡ sense_length
-
-length_map : (f : ℕ → ℕ) (xs : List ℕ) → length (map f xs) ≡ length xs
-length_map f [] = refl
-length_map f (x ∷ xs) = ap suc (length_map f xs)
 
 pub held : (d : Drive) → Is T.the_row d (LL.vals T.the_type T'.the_laws d) → Bounded d
 held d is =

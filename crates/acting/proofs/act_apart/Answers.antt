@@ -7,7 +7,7 @@ use mathlib.Core.Bool.{true, false}
 use Rattle.commands.specs.Act.{act, reply_of}
 use Rattle.acting.proofs.Acts.{unlaid, selecting_none}
 use Rattle.acting.proofs.Asked.{asks_sense, asks_limits, asks_select, asks_mode}
-use Rattle.acting.proofs.Told.{told_others}
+use Rattle.acting.proofs.Told.{told_others, among_others}
 use Rattle.acting.proofs.act_apart.Goals as goal
 
 pub request_sense-requires : goal.request_sense-requires
@@ -39,4 +39,4 @@ unfolding act
 returns-in-ModeSense c = rw c.in-ModeSense.is c.mode_sense.ensures
 
 pub returns-in_default : goal.returns-in_default
-returns-in_default c = let a = c.in_default in absurd (let e : true ≡ false = sym (told_others c.args.o a.not-RequestSense a.not-ReadBlockLimits a.not-ModeSelect a.not-ModeSense) ∙ c.requires.apart in let z : ◌≡◌ {A = ℕ} 0 1 = cc in omega arith)
+returns-in_default c = let a = c.in_default in absurd (let e : true ≡ false = sym (told_others c.args.o (among_others c.args.o a.not-RequestSense a.not-ReadBlockLimits a.not-ModeSelect a.not-ModeSense)) ∙ c.requires.apart in let z : ◌≡◌ {A = ℕ} 0 1 = cc in omega arith)
