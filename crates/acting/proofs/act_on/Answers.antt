@@ -1,6 +1,6 @@
 -- The command by its arm; what its code asks for, from the tests passed; and what it leaves.
 -- Assumes nothing.
-use mathlib.Core.Path.{refl}
+use mathlib.Core.Path.{◌≡◌, refl}
 use Rattle.codes.specs.declared.operation.Operation.TheVariants.{TestUnitReady, Rewind, Read, Write, WriteFilemarks, Space, Erase, LoadUnload, Locate, ReadPosition, Space16, Locate16, NotServed}
 use Rattle.commands.specs.Act.{act, events_of, marking, goes_down, offered}
 use Rattle.commands.specs.Step.{acted}
@@ -17,7 +17,7 @@ pub write-requires : goal.write-requires
 write-requires c = asks_write c.requires c.in-Write.is
 
 pub write_filemarks-requires : goal.write_filemarks-requires
-write_filemarks-requires c = asks_place c.requires c.in-WriteFilemarks.is refl
+write_filemarks-requires c = let e : c.args.o ≡ WriteFilemarks = cc in asks_place c.requires e refl
 
 pub space-requires : goal.space-requires
 space-requires c = asks_place c.requires c.in-Space.is refl
@@ -35,7 +35,7 @@ pub read_position-requires : goal.read_position-requires
 read_position-requires c = asks_position c.requires c.in-ReadPosition.is
 
 pub erase-requires : goal.erase-requires
-erase-requires c = asks_place c.requires c.in-Erase.is refl
+erase-requires c = let e : c.args.o ≡ Erase = cc in asks_place c.requires e refl
 
 pub load_unload-requires : goal.load_unload-requires
 load_unload-requires c = five c.requires.free
@@ -56,7 +56,7 @@ returns-in-Write c = acts_written _ _ _ _ _ Write c.in-Write.is c.write.ensures.
 
 pub returns-in-WriteFilemarks : goal.returns-in-WriteFilemarks
 unfolding act laid_out acted events_of marking goes_down offered
-returns-in-WriteFilemarks c = acts_written _ _ _ _ _ WriteFilemarks c.in-WriteFilemarks.is c.write_filemarks.ensures.0 c.write_filemarks.ensures.1 (marking_none _ _ c.args.sent.now _)
+returns-in-WriteFilemarks c = acts_written _ _ _ _ _ WriteFilemarks (cc) (cc) (cc) (marking_none _ _ c.args.sent.now _)
 
 pub returns-in-Space : goal.returns-in-Space
 unfolding act
@@ -80,7 +80,7 @@ returns-in-ReadPosition c = acts_laid _ _ _ _ _ ReadPosition c.in-ReadPosition.i
 
 pub returns-in-Erase : goal.returns-in-Erase
 unfolding act laid_out acted events_of
-returns-in-Erase c = acts_written _ _ _ _ _ Erase c.in-Erase.is c.erase.ensures.0 c.erase.ensures.1 refl
+returns-in-Erase c = acts_written _ _ _ _ _ Erase (cc) (cc) (cc) refl
 
 pub returns-in-LoadUnload : goal.returns-in-LoadUnload
 unfolding act

@@ -10,15 +10,15 @@ use Rattle.order.proofs.stop_of.Goals as goal
 
 pub returns-then-waits : goal.returns-then-waits
 unfolding tests
-returns-then-waits c = λ v g. holds _ _ c.attention_waits-waits.ensures c.if-waits.true refl
+returns-then-waits c = λ v g. holds _ _ c.attention_waits-waits.ensures (cc) refl
 
 pub returns-then-not-served : goal.returns-then-not-served
 unfolding tests
-returns-then-not-served c = λ v g. passes _ _ c.attention_waits-waits.ensures c.if-waits.false (holds _ _ (ap not c.is_served-served.ensures) (not_from_false _ c.if-not-served.true) refl)
+returns-then-not-served c = λ v g. passes _ _ c.attention_waits-waits.ensures (cc) (holds _ _ (ap not c.is_served-served.ensures) (not_from_false c.is_served-served.result (cc)) refl)
 
 pub stop_of_served-requires : goal.stop_of_served-requires
-stop_of_served-requires c = served_known _ _ c.requires.0 c.requires.1 _ c.is_served-served.ensures (not_from_true _ c.if-not-served.false)
+stop_of_served-requires c = served_known _ _ c.requires.0 c.requires.1 _ c.is_served-served.ensures (not_from_true c.is_served-served.result (cc))
 
 pub returns : goal.returns
 unfolding tests
-returns c = λ v g. passes _ _ c.attention_waits-waits.ensures c.if-waits.false (passes _ _ (ap not c.is_served-served.ensures) (not_from_true _ c.if-not-served.false) (c.stop_of_served.ensures v g))
+returns c = λ v g. passes _ _ c.attention_waits-waits.ensures (cc) (passes _ _ (ap not c.is_served-served.ensures) (not_from_true c.is_served-served.result (cc)) (c.stop_of_served.ensures v g))

@@ -21,7 +21,9 @@ loop-i-preserved c =
     let s = c.args.s.now in
     let e = c.entry_at-e.ensures in
     let judged = c.entry_follows-ok.ensures ∙ ap₂ follows l.invariant.1 e in
-    (omega arith, c.end_of-before.ensures ∙ ap low31 e ∙ sym (end_next s l.i), ap₂ (λ (a b : Bool). a && b) l.invariant.2 judged ∙ ordered_next s l.i)
+    let low = ap low31 e in
+    let next = end_next s l.i in
+    (omega arith, cc, ap₂ (λ (a b : Bool). a && b) l.invariant.2 judged ∙ ordered_next s l.i)
 
 pub returns : goal.returns
 returns c =
