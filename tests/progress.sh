@@ -127,7 +127,7 @@ note_block() { # LINE
 # What is proved, function by function, and what it was proved with: nothing of it tells of a failure.
 is_detail() { # LINE
     [[ $1 =~ ^==\ [a-z0-9_]+(:\ its\ tests)?$ ||
-        $1 =~ ^[a-z]+\ [^\ ]+:\ proved(,\ may\ abort)?$ ||
+        $1 =~ ^[a-z]+\ [^\ ]+:\ proved$ ||
         $1 =~ ^empty\ contracts:\ 0\ found\;\ tried\  ||
         $1 =~ ^(library|statements|crate)\ [^\ ]+:\ modules\ loaded=[0-9]+\ checked=[0-9]+$ ||
         $1 =~ ^logic\ [^\ ]+:\ libraries=[0-9]+\ files=[0-9]+\ sum=[0-9a-f]+$ ||
@@ -229,7 +229,7 @@ library_shown() { # FOLDER
 }
 
 listing_shown() { # FOLDER
-    made_shown "$1" listing listing target/bin run
+    made_shown "$1" listing listing target/bin run --cpu x86-64
 }
 
 # Whether the library is there, and nothing that it is proved from is newer. What rt keeps in out/ is no source.
