@@ -1,6 +1,6 @@
 -- The loop carries `end_at` of i, and its flag is `ordered` of the first i entries (`end_next`, `ordered_next`).
 -- Assumes nothing.
-use Rattle.std.proofs.Common.{◌≡◌, Bool, ◌&&◌, sym, refl, ap, ◌∙◌, ap₂, arith}
+use Rattle.std.proofs.Common.{◌≡◌, Bool, ◌&&◌, refl, ap, ◌∙◌, ap₂, arith}
 use Rattle.image.proofs.Facts.{end_lt, end_next, ordered_next}
 use Rattle.image.specs.Image.{low31, follows, ordered}
 use Rattle.image.proofs.sound.entries_within.Goals as goal
