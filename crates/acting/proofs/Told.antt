@@ -4,7 +4,7 @@ use Prim.Native.Nat.{ℕ}
 use mathlib.Core.Path.{◌≡◌, refl, ap, ◌∙◌}
 use mathlib.Core.Bool.{Bool, true, false}
 use mathlib.Core.List.{List, [], ◌∷◌}
-use mathlib.Core.Logic.{inl, inr}
+use mathlib.Core.Logic.{◌⊎◌, inl, inr}
 use denote.Enum.Declared.{tag_of}
 use types.Run.{OneOf}
 use borrow.Author.Rules.{rules}
@@ -42,6 +42,13 @@ module _ (o : Operation) where
 
   pub told_others : OneOf (keys others) (tag_of the_type o) → needs_cartridge o ≡ true
   told_others m = each o needs_cartridge true (keys others) (λ v. refl, (λ v. refl, (λ v. refl, (λ v. refl, (λ v. refl, (λ v. refl, (λ v. refl, (λ v. refl, (λ v. refl, (λ v. refl, (λ v. refl, (λ v. refl, (λ v. refl, tt))))))))))))) m
+
+-- what is one of the four has its key among theirs
+pub among_apart : (o : Operation) → (o ≡ RequestSense) ⊎ ((o ≡ ReadBlockLimits) ⊎ ((o ≡ ModeSelect) ⊎ (o ≡ ModeSense))) → OneOf (keys apart) (tag_of the_type o)
+among_apart o (inl e) = inl (ap (tag_of the_type) e)
+among_apart o (inr (inl e)) = inr (inl (ap (tag_of the_type) e))
+among_apart o (inr (inr (inl e))) = inr (inr (inl (ap (tag_of the_type) e)))
+among_apart o (inr (inr (inr e))) = inr (inr (inr (ap (tag_of the_type) e)))
 
 -- what is none of the four is one of the others
 pub among_others : (o : Operation) → (o ≡ RequestSense → ⊥) → (o ≡ ReadBlockLimits → ⊥) → (o ≡ ModeSelect → ⊥) → (o ≡ ModeSense → ⊥) → OneOf (keys others) (tag_of the_type o)

@@ -7,7 +7,7 @@ use Rattle.commands.specs.Step.{acted}
 use Rattle.commands.specs.Call.{laid_out}
 use Rattle.acting.proofs.Acts.{acts_written, acts_laid, acts_quiet, acts_apart, writing_none, marking_none, spacing_none, locating_none}
 use Rattle.acting.proofs.Asked.{five, asks_read, asks_write, asks_place, asks_space16, asks_locate, asks_locate16, asks_position, asks_protection, asks_apart}
-use Rattle.acting.proofs.Told.{told_apart}
+use Rattle.acting.proofs.Told.{told_apart, among_apart}
 use Rattle.acting.proofs.act_on.Goals as goal
 
 pub read-requires : goal.read-requires
@@ -44,7 +44,7 @@ pub is_protected-requires : goal.is_protected-requires
 is_protected-requires c = asks_protection c.requires
 
 pub act_apart-requires : goal.act_apart-requires
-act_apart-requires c = asks_apart c.requires c.is_protected.ensures (told_apart c.args.o c.in-RequestSense.in-RequestSense-own.keys14)
+act_apart-requires c = asks_apart c.requires c.is_protected.ensures (told_apart c.args.o (among_apart c.args.o c.in-RequestSense.is))
 
 pub returns-in-Read : goal.returns-in-Read
 unfolding act
@@ -99,4 +99,4 @@ unfolding act
 returns-in-NotServed c = acts_quiet _ _ _ _ _ NotServed c.in-NotServed.is c.good-in-NotServed.ensures refl refl
 
 pub returns-in-RequestSense : goal.returns-in-RequestSense
-returns-in-RequestSense c = acts_apart _ _ _ _ _ _ (told_apart c.args.o c.in-RequestSense.in-RequestSense-own.keys14) c.is_protected.ensures c.act_apart.ensures
+returns-in-RequestSense c = acts_apart _ _ _ _ _ _ (told_apart c.args.o (among_apart c.args.o c.in-RequestSense.is)) c.is_protected.ensures c.act_apart.ensures

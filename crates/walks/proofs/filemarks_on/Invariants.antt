@@ -1,4 +1,4 @@
--- Over filemarks on from p: the loop is along the walk, and ends as the walk does.
+-- The invariant and the measure of the loop; that they hold: Answers.antt.
 -- Assumes nothing.
 use Prim.Native.Nat.{◌-◌}
 use Rattle.objects.specs.Movement.{filemarks}

@@ -1,4 +1,4 @@
--- Every byte passed lies within its mask (`masks_next`); one that does not decides (`masks_outside`).
+-- The invariant and the measure of the loop; that they hold: Answers.antt.
 -- Assumes nothing.
 use Prim.Native.Nat.{◌-◌, ◌≤◌}
 use mathlib.Core.Bool.{true}

@@ -12,9 +12,9 @@ bounds-cmd-0 c = (long_enough _ c.requires).0
 pub in_masks-requires : goal.in_masks-requires
 in_masks-requires c =
     let l = long_enough c.args.cmd.now c.requires in
-    omega (arith, longest (code_of c.args.cmd.now) (c.shared_slice_known-1.given 0).fits)
+    omega (arith, longest (code_of c.args.cmd.now) (c.type_inv.cmd 0).fits)
 
 pub returns : goal.returns
 returns c =
-    let w = longest (code_of c.args.cmd.now) (c.shared_slice_known-1.given 0).fits in
+    let w = longest (code_of c.args.cmd.now) (c.type_inv.cmd 0).fits in
     c.in_masks.ensures ∙ masks_judged _ _ _ c.masks_of-masks.ensures c.block_length.ensures (omega arith)

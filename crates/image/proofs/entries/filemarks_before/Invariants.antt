@@ -1,4 +1,4 @@
--- The loop has counted the top bits of the first i entries (`filemarks_next`).
+-- The invariant and the measure of the loop; that they hold: Answers.antt.
 -- Assumes nothing.
 use Rattle.std.proofs.Common.{◌≡◌, ◌-◌, ◌≤◌}
 use Rattle.image.specs.Image.{filemarks_before}

@@ -1,4 +1,4 @@
--- The loop carries `end_at` of i, and its flag is `ordered` of the first i entries (`end_next`, `ordered_next`).
+-- The invariant and the measure of the loop; that they hold: Answers.antt.
 -- Assumes nothing.
 use Rattle.std.proofs.Common.{◌≡◌, ◌-◌, ◌≤◌}
 use Rattle.image.specs.Image.{end_at, ordered}

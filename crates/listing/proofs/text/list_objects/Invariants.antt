@@ -1,5 +1,4 @@
--- The loop's invariant: behind line one stand the lines of the first i objects, and the text's length is as it was. The measure is
--- how many objects are left. Before each turn there is room for one line more (`lines_fit`).
+-- The invariant and the measure of the loop; that they hold: Answers.antt.
 -- Assumes nothing.
 use Prim.Native.Nat.{◌-◌, ◌≤◌}
 use mathlib.Core.Path.{◌≡◌}

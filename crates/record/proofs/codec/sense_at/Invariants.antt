@@ -1,4 +1,4 @@
--- The loop has copied the first i bytes from byte 12 on (`sense_turn`).
+-- The invariant and the measure of the loop; that they hold: Answers.antt.
 -- Assumes nothing.
 use Prim.Native.Nat.{◌-◌, ◌≤◌}
 use mathlib.Core.Path.{◌≡◌}

@@ -1,4 +1,4 @@
--- The loop has put `done` blocks, and the definition's outcome is that of the rest from the image that now stands (`Sending`).
+-- The invariant and the measure of the loop; that they hold: Answers.antt.
 -- Assumes nothing.
 use Prim.Native.Nat.{◌-◌, ◌≤◌}
 use Rattle.transfer.proofs.Sent.{Sending}

@@ -1,4 +1,4 @@
--- The loop has read `done` blocks into the start of `received`, and the run is they and the run from there on (`ReadOn`).
+-- The invariant and the measure of the loop; that they hold: Answers.antt.
 -- Assumes nothing.
 use Prim.Native.Nat.{◌-◌, ◌≤◌}
 use Rattle.transfer.proofs.Whole.{ReadOn}

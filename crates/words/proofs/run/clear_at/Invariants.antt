@@ -1,4 +1,4 @@
--- The loop has laid down zeros from `from` up to i (`paste` of a run of zeros).
+-- The invariant and the measure of the loop; that they hold: Answers.antt.
 -- Assumes nothing.
 use Rattle.std.proofs.Common.{◌≡◌, ◌-◌, ◌≤◌, length, replicate}
 use lib.Seq.{paste}

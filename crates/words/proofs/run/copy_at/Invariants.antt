@@ -1,4 +1,4 @@
--- The loop has laid down the first i bytes of src (`paste`); at its end that is all of them.
+-- The invariant and the measure of the loop; that they hold: Answers.antt.
 -- Assumes nothing.
 use Rattle.std.proofs.Common.{◌≡◌, ◌-◌, ◌≤◌, length}
 use lib.Seq.{paste}
