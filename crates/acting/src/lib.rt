@@ -12,6 +12,7 @@ ghost use Rattle.acting.specs.Ready.{Ready, ReadyApart};
 
 use codes::Operation;
 use deeds::Left;
+use image::Image;
 use record::Drive;
 
 // A command that needs no cartridge: of a partition it sees only whether it is protected.
@@ -60,14 +61,14 @@ pub fn act_on(
     ensures { (result ≡ left_by (act o d cmd.now sent.now (seen_of s.old))) × (s.new ≡ laid_out (acted o d cmd.now sent.now (seen_of s.old)) s.old) × (received.new ≡ over received.old 0 (act o d cmd.now sent.now (seen_of s.old)).received) }
 {
     match o {
-        Operation::Read => reading::read(s, d, cmd, received),
+        Operation::Read => reading::read(&Image::of(s), d, cmd, received),
         Operation::Write => writing::write(s, d, cmd, sent),
         Operation::WriteFilemarks => writing::write_filemarks(s, d, cmd),
-        Operation::Space => moving::space(s, d, cmd),
-        Operation::Space16 => moving::space16(s, d, cmd),
-        Operation::Locate => moving::locate(s, d, cmd),
-        Operation::Locate16 => moving::locate16(s, d, cmd),
-        Operation::ReadPosition => parameters::read_position(s, d, cmd, received),
+        Operation::Space => moving::space(&Image::of(s), d, cmd),
+        Operation::Space16 => moving::space16(&Image::of(s), d, cmd),
+        Operation::Locate => moving::locate(&Image::of(s), d, cmd),
+        Operation::Locate16 => moving::locate16(&Image::of(s), d, cmd),
+        Operation::ReadPosition => parameters::read_position(&Image::of(s), d, cmd, received),
         Operation::Erase => writing::erase(s, d, cmd),
         Operation::LoadUnload => load_unload(d, cmd),
         Operation::Rewind => moving::rewind(d),

@@ -2,7 +2,11 @@
 -- Assumes nothing: these are definitions.
 use Rattle.std.specs.Prelude.{ℕ, ◌+◌, ◌*◌, ◌^◌, ◌<◌, Bool, cond, List, [], ◌∷◌, eqb}
 use Rattle.std.proofs.Math.Option.{Option, none, some}
+use Rattle.std.specs.Prelude.{Result, Ok, Err}
 use Rattle.answers.specs.declared.Answer.{Answer}
+use Rattle.answers.specs.declared.Reply.{Reply}
+use Rattle.answers.specs.declared.Refusal.{Refusal}
+use Rattle.answers.specs.declared.Refusal.TheVariants.{CommandShort, SentShort, ReceivedShort, RecordFault, AlreadyLoaded, UnsoundImage, WrongLength}
 
 -- the refusals of 01's table, by name
 abbrev pub command_short : ℕ
@@ -26,6 +30,16 @@ unsound_image = 6
 abbrev pub wrong_length : ℕ
 wrong_length = 7
 
+-- the code's cases of a refusal, each with its number
+abbrev pub number_of : Refusal → ℕ
+number_of CommandShort = command_short
+number_of SentShort = sent_short
+number_of ReceivedShort = received_short
+number_of RecordFault = record_fault
+number_of AlreadyLoaded = already_loaded
+number_of UnsoundImage = unsound_image
+number_of WrongLength = wrong_length
+
 -- the SCSI status CHECK CONDITION
 abbrev pub check_condition : ℕ
 check_condition = 0x02
@@ -41,6 +55,21 @@ answered status carried crossed = record { refusal = 0; status = status; carried
 -- a house service done: 0, 0, 0; it crosses no object
 abbrev pub done : Answer
 done = answered 0 0 0
+
+-- the answer that the code's end of a command stands for: what it reports, or its refusal
+abbrev pub answer_of : Result Reply Refusal → Answer
+answer_of (Ok r) = answered r.status r.carried r.crossed
+answer_of (Err e) = refused (number_of e)
+
+-- that of a house service
+abbrev pub done_of : Result (Unit {0}) Refusal → Answer
+done_of (Ok u) = done
+done_of (Err e) = refused (number_of e)
+
+-- the refusal of what was tested: its number, 0 for none
+abbrev pub fault_number : Result (Unit {0}) Refusal → ℕ
+fault_number (Ok u) = 0
+fault_number (Err e) = number_of e
 
 -- of the tests of a call, in their order, what the first that holds gives
 module _ {A : Type 0} where

@@ -3,33 +3,70 @@
 
 ghost use Rattle.std.specs.Prelude.{◌≡◌, ◌<◌};
 ghost use Rattle.answers.specs.Answers.{InFields, packed, packed_part};
-ghost use Rattle.answers.specs.Answers.{answered, refused, done};
+ghost use Rattle.answers.specs.Answers.{number_of, answer_of, done_of, answered, refused, done};
 
-// The refusals of document 01's table.
-pub const COMMAND_SHORT: u8 = 1;
+// The refusals of document 01's table, by their numbers there.
+#[derive(Clone, Copy, Debug, PartialEq, Eq)]
+pub enum Refusal {
+    CommandShort = 1,
+    SentShort = 2,
+    ReceivedShort = 3,
+    RecordFault = 4,
+    AlreadyLoaded = 5,
+    UnsoundImage = 6,
+    WrongLength = 7,
+}
 
-pub const SENT_SHORT: u8 = 2;
+impl From<Refusal> for u8 {
+    ghost from_gives = { λ refusal number. number ≡ number_of refusal };
 
-pub const RECEIVED_SHORT: u8 = 3;
-
-pub const RECORD_FAULT: u8 = 4;
-
-pub const ALREADY_LOADED: u8 = 5;
-
-pub const UNSOUND_IMAGE: u8 = 6;
-
-pub const WRONG_LENGTH: u8 = 7;
+    fn from(refusal: Refusal) -> u8 {
+        refusal as u8
+    }
+}
 
 // The SCSI status CHECK CONDITION.
 pub const CHECK_CONDITION: u8 = 0x02;
 
 // Refusal (0 for none), SCSI status, bytes carried, objects crossed.
-#[derive(Clone, Copy)]
+#[derive(Clone, Copy, Debug, PartialEq, Eq)]
 pub struct Answer {
     pub refusal: u8,
     pub status: u8,
     pub carried: u32,
     pub crossed: u32,
+}
+
+// What a command that is not refused reports: its SCSI status, the bytes carried, and the objects crossed.
+#[derive(Clone, Copy, Debug, PartialEq, Eq)]
+pub struct Reply {
+    pub status: u8,
+    pub carried: u32,
+    pub crossed: u32,
+}
+
+// The four numbers of a command's end.
+impl From<Result<Reply, Refusal>> for Answer {
+    ghost from_gives = { λ end answer. answer ≡ answer_of end };
+
+    fn from(end: Result<Reply, Refusal>) -> Answer {
+        match end {
+            Ok(reply) => answered(reply.status, reply.carried, reply.crossed),
+            Err(refusal) => refused(refusal.into()),
+        }
+    }
+}
+
+// The four numbers of a house service's end.
+impl From<Result<(), Refusal>> for Answer {
+    ghost from_gives = { λ end answer. answer ≡ done_of end };
+
+    fn from(end: Result<(), Refusal>) -> Answer {
+        match end {
+            Ok(()) => done(),
+            Err(refusal) => refused(refusal.into()),
+        }
+    }
 }
 
 pub fn refused(number: u8) -> Answer
@@ -49,9 +86,9 @@ pub fn answered(status: u8, carried: u32, crossed: u32) -> Answer
 {
     Answer {
         refusal: 0,
-        status: status,
-        carried: carried,
-        crossed: crossed,
+        status,
+        carried,
+        crossed,
     }
 }
 

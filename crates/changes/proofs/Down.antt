@@ -14,16 +14,11 @@ use Rattle.objects.specs.Events.{put}
 use Rattle.objects.specs.Room.{room_of, fits_in}
 use Rattle.image.specs.Image.{count, end_at, room, fits}
 use Rattle.changes.specs.Changes.{occur, occurs}
+use Rattle.changes.specs.Holdable.{AllHoldable}
 use Rattle.image.proofs.Facts.{Sound, ends_in}
-use Rattle.changes.proofs.Placed.{Holdable}
 use Rattle.changes.proofs.Obeys.{Admits, obeys, put_next}
 use Rattle.objects.specs.Transfer.{marks_of, blocks_of, fitting, put_from}
 use Rattle.objects.proofs.Fitting.{fitting_more, fitting_none}
-
--- objects that a partition may hold
-unfoldable pub AllHoldable : List Object → Type 0
-AllHoldable [] = Unit {0}
-AllHoldable (o ∷ os) = Holdable o × AllHoldable os
 
 -- the objects os put from number p of s on
 pub record Down (p : ℕ) (os : List Object) (s : List ℕ) : Type 0 where
@@ -94,9 +89,6 @@ blocks_kept b (suc n) x u v m =
 
 -- ---- their bytes
 
-suc_mul_first : (k b : ℕ) → suc k * b ≡ b + k * b
-suc_mul_first k b = let e = suc-mul k b in omega arith
-
 -- b bytes each
 unfoldable pub AllOf : ℕ → List Object → Type 0
 AllOf b [] = Unit {0}
@@ -124,4 +116,4 @@ fitting_bytes l n e b (o ∷ os) a = go (fits_in (room_of l n e) (length (data_o
     go false h i = rw (fitting_none l n e o os h) (sym (zero-mul b))
     go true h i =
         let m = fitting_more l n e o os h in
-        ap bytes_in m ∙ ap₂ {C = ℕ} ◌+◌ a.0 i ∙ sym (suc_mul_first (length (fitting l (suc n) (e + length (data_of o)) os)) b) ∙ ap (λ (fs : List Object). length fs * b) (sym m)
+        ap bytes_in m ∙ ap₂ {C = ℕ} ◌+◌ a.0 i ∙ omega (arith, suc-mul (length (fitting l (suc n) (e + length (data_of o)) os)) b) ∙ ap (λ (fs : List Object). length fs * b) (sym m)

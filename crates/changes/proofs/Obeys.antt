@@ -14,11 +14,12 @@ use Rattle.objects.specs.Events.{Event, put, cut, place, happen, happens, Lawful
 use Rattle.objects.specs.Room.{trailer_length}
 use Rattle.image.specs.Image.{entry_place, count, flags, end_at, fits, objects}
 use Rattle.changes.specs.Changes.{retitle, entry_of, enter, occur, occurs}
+use Rattle.changes.specs.Holdable.{Holdable}
 use Rattle.image.proofs.Facts.{Sound, fits_room}
 use Rattle.image.proofs.Objects.{length_objects}
 use Rattle.changes.proofs.Retitled.{retitle_out}
 use Rattle.changes.proofs.Erased.{cut_length, cut_flags, cut_objects, cut_sound}
-use Rattle.changes.proofs.Placed.{Holdable, Fits, put_length, put_flags, put_count, put_end_new, put_objects, put_sound}
+use Rattle.changes.proofs.Placed.{Fits, put_length, put_flags, put_count, put_end_new, put_objects, put_sound}
 
 -- an event that the image admits: at a number that stands or is next, and what is put may be held and fits there
 abbrev pub Admits : Event → List ℕ → Type 0

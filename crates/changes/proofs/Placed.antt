@@ -12,19 +12,15 @@ use lib.ListN.{length, take, get_or}
 use lib.Seq.{slice}
 use Rattle.words.specs.Words.{be, over}
 use Rattle.words.proofs.Laws.{length_over, get_d_over_lt, get_d_over_ge, slice_over, length_put, get_d_put_lt, get_d_put_ge, be_put, be_same}
-use Rattle.objects.specs.Object.{largest_block, Object, filemark, block, data_of}
+use Rattle.objects.specs.Object.{Object, filemark, block, data_of}
 use Rattle.objects.specs.Room.{trailer_length, entry_length}
 use Rattle.image.specs.Image.{entry_place, count, flags, directory, size, entry, top_bit, low31, end_at, follows, ordered, object_at, objects, upto}
 use Rattle.changes.specs.Changes.{retitle, entry_of, enter}
+use Rattle.changes.specs.Holdable.{Holdable}
 use Rattle.image.proofs.Facts.{Sound, top_block, top_filemark, low_block, low_filemark, follows_block, follows_filemark, ordered_below, ends_grow, entries_in}
 use Rattle.changes.proofs.Alike.{Matching, slice_agree, alike_end, alike_ordered, alike_object}
 use Rattle.image.proofs.Objects.{upto_cong, take_objects}
 use Rattle.changes.proofs.Retitled.{retitle_length, retitle_front, retitle_flags, retitle_size, retitle_count, retitle_dir}
-
--- an object that an image may hold: a filemark, or a block of 1 to 1,048,576 bytes
-abbrev pub Holdable : Object → Type 0
-Holdable filemark = Unit {0}
-Holdable (block bs) = (0 < length bs) × (length bs ≤ largest_block)
 
 -- the room at n holds the object's entry and its data
 abbrev pub Fits : List ℕ → ℕ → Object → Type 0

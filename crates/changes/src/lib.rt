@@ -3,4 +3,4 @@
 
 mod events;
 
-pub use events::{cut, cut_clearing, put_block, put_filemark, retitle};
+pub use events::{Object, cut, cut_clearing, put, retitle};

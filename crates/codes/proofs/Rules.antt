@@ -1,46 +1,24 @@
 -- The laws that the code's tests cite: the row of an operation code, a command block's length, its masks.
 -- Assumes nothing.
 use mathlib.Core.Path.{◌≡◌, refl, sym, ap, ◌∙◌}
-use mathlib.Core.Bool.{Bool, true, false, cond, ◌&&◌, ◌||◌}
+use mathlib.Core.Bool.{Bool, true, false, cond, ◌&&◌}
 use mathlib.Core.List.{List, [], ◌∷◌, ◌++◌}
 use Prim.Native.Nat.{ℕ, zero, suc, ◌+◌, ◌-◌, ◌<◌, ◌≤◌}
-use native.Mathlib.Nat.{not-suc-le-zero}
-use native.Mathlib.Numerals.{add-one}
 use native.Mathlib.Omega.{arith}
-use borrow.Author.Tests.{eq-eqb, ne_eqb, leb-true, eqb-true, eqb-false, ltb-false}
+use borrow.Author.Tests.{leb-true, eqb-true}
+use Rattle.std.proofs.Math.Bool.{and-true, and_assoc}
+use Rattle.std.proofs.lemmas.Bool.{agree_below_at}
+use Rattle.std.proofs.lemmas.Bool.Decides.{nat_tests}
+use Rattle.std.specs.List.{list_all, zip}
 use lib.Bits.{bit_and}
-use lib.Dec.{eqb, leb, ltb}
-use lib.ListN.{length, get_or, replicate, get_or-replicate}
+use lib.Dec.{eqb, leb}
+use lib.ListN.{length, get_or, take, drop, replicate}
 use lib.Seq.{get_or-take}
 use Rattle.codes.specs.declared.operation.Operation.{Operation}
 use Rattle.codes.specs.declared.operation.Operation.TheVariants.{TestUnitReady, Rewind, RequestSense, ReadBlockLimits, Read, Write, WriteFilemarks, Space, ModeSelect, Erase, ModeSense, LoadUnload, Locate, ReadPosition, Space16, Locate16, NotServed}
-use Rattle.codes.specs.Codes.{length_of, code_of, too_short, number_of, Row, rows, no_row, find, row_of, operation_of, masks_of, mask_count, spread, in_masks, masks_hold}
-use Rattle.codes.proofs.Table.{tab, rule}
+use Rattle.codes.specs.Codes.{length_of, code_of, too_short, number_of, Row, no_row, find, operation_of, masks_of, mask_count, spread, in_masks, masks_hold}
 
 -- ---- the row of an operation code
-
--- what is known of a number that is none of the rows', said as a `match` says it: one number after the other
-abbrev pub Past : List Row → ℕ → Type 0 → Type 0
-Past [] op A = A
-Past (r ∷ rs) op A = Past rs op (A × (op ≡ number_of r.operation → ⊥))
-
-first_known : (rs : List Row) (op : ℕ) (A : Type 0) → Past rs op A → A
-first_known [] op A h = h
-first_known (r ∷ rs) op A h = (first_known rs op (A × (op ≡ number_of r.operation → ⊥)) h).0
-
-none_found : (rs : List Row) (op : ℕ) (A : Type 0) → Past rs op A → no_row ≡ find rs op
-none_found [] op A h = refl
-none_found (r ∷ rs) op A h =
-    let B : Type 0 = A × (op ≡ number_of r.operation → ⊥) in
-    let n : number_of r.operation ≡ op → ⊥ = λ e. (first_known rs op B h).1 (sym e) in
-    rw (ne_eqb (number_of r.operation) op n) (none_found rs op B h)
-
--- in the code's matches: an arm for a code, and the last
-pub arm : {A : Type 0} (f : Row → A) {op n : ℕ} {x : A} → op ≡ n → x ≡ f (row_of n) → x ≡ f (row_of op)
-arm f e q = q ∙ ap (λ (k : ℕ). f (row_of k)) (sym e)
-
-pub last_arm : {A : Type 0} (f : Row → A) {op : ℕ} → Past rows op (Unit {0}) → f no_row ≡ f (row_of op)
-last_arm f {op} h = ap f (none_found rows op (Unit {0}) h)
 
 -- a row is found by the number of its operation, or none is
 pub data Found (op : ℕ) (r : Row) : Type 0 where
@@ -57,67 +35,39 @@ found (r ∷ rs) op = by (eqb (number_of r.operation) op) refl (found rs op)
 
 -- ---- a command block that is not too short
 
-pub short_empty : (cmd : List ℕ) → length cmd ≡ 0 → true ≡ too_short cmd
-unfolding too_short
-short_empty cmd e = rw (eq-eqb (length cmd) 0 e) refl
-
-pub short_by_length : (cmd : List ℕ) (n : ℕ) → (length cmd ≡ 0 → ⊥) → n ≡ length_of (code_of cmd) → ltb (length cmd) n ≡ too_short cmd
-unfolding too_short
-short_by_length cmd n h e = rw (ne_eqb (length cmd) 0 h, ← e) refl
-
 pub long_enough : (cmd : List ℕ) → too_short cmd ≡ false → (0 < length cmd) × (length_of (code_of cmd) ≤ length cmd)
 unfolding too_short
-long_enough cmd h = by (eqb (length cmd) 0) (ltb (length cmd) (length_of (code_of cmd))) refl refl h
-  where
-    by : (a b : Bool) → eqb (length cmd) 0 ≡ a → ltb (length cmd) (length_of (code_of cmd)) ≡ b → (a || b) ≡ false → (0 < length cmd) × (length_of (code_of cmd) ≤ length cmd)
-    by true b ea eb q = absurd (let z : ◌≡◌ {A = ℕ} 0 1 = cc in omega arith)
-    by false true ea eb q = absurd (let z : ◌≡◌ {A = ℕ} 0 1 = cc in omega arith)
-    by false false ea eb q =
-        let some : length cmd ≡ 0 → ⊥ = eqb-false (length cmd) 0 ea in
-        (omega arith, ltb-false (length cmd) (length_of (code_of cmd)) eb)
+long_enough cmd h = grind (arith, nat_tests)
 
--- no command block is longer than its masks reach: 1 at each code where that is so, computed once over all
-reached : ℕ → ℕ
-reached op = cond (leb (length_of op) (mask_count + 1)) 1 0
-
-all_reached : tab reached 256 0 ≡ replicate 256 1
-unfolding reached
-all_reached = refl
-
-at_one : (n k : ℕ) → k < n → ◌≡◌ {A = ℕ} (get_or (replicate n 1) k 0) 1
-at_one n k h = get_or-replicate n k 1 0 h
-
+-- no command block is longer than its masks reach: computed at each of the 256 codes
 pub longest : (op : ℕ) → op < 256 → length_of op ≤ mask_count + 1
-unfolding reached
-longest op h = by (leb (length_of op) (mask_count + 1)) refl (sym (rule reached 256 op h) ∙ ap (λ (l : List ℕ). get_or l op 0) all_reached ∙ at_one 256 op h)
-  where
-    by : (t : Bool) → leb (length_of op) (mask_count + 1) ≡ t → ◌≡◌ {A = ℕ} (cond t 1 0) 1 → length_of op ≤ mask_count + 1
-    by true q e = leb-true (length_of op) (mask_count + 1) q
-    by false q e = absurd (let z : ◌≡◌ {A = ℕ} 0 1 = e in omega arith)
+longest op h = leb-true (length_of op) (mask_count + 1) (agree_below_at (λ (k : ℕ). leb (length_of k) (mask_count + 1)) (λ (k : ℕ). true) 256 op refl h)
 
 -- ---- masks
 
--- one byte more lies within its mask
-pub masks_next : (m cmd : List ℕ) (k : ℕ) → true ≡ in_masks m cmd k → bit_and (get_or cmd (k + 1) 0) (get_or m k 0) ≡ get_or cmd (k + 1) 0 → true ≡ in_masks m cmd (k + 1)
+-- a byte beside its mask lies within it
+abbrev pub within : ℕ × ℕ → Bool
+within p = eqb (bit_and p.0 p.1) p.0
+
+-- the first byte beside the first mask, and then the others
+front : (m xs : List ℕ) (a c x k : ℕ) → within (x, a) && in_masks m (x ∷ xs) k ≡ in_masks (a ∷ m) (c ∷ x ∷ xs) (suc k)
 unfolding in_masks
-masks_next m cmd k e f = rw (add-one k) (rw (← e) (sym (eq-eqb _ _ (rw (add-one k) at f))))
+front m xs a c x zero = and-true (within (x, a))
+front m xs a c x (suc k) = sym (and_assoc (within (x, a)) (in_masks m (x ∷ xs) k) _) ∙ ap (λ (b : Bool). b && within (get_or (x ∷ xs) (suc k) 0, get_or m k 0)) (front m xs a c x k)
 
--- one that does not decides
-lost : (x : Bool) → false ≡ x && false
-lost true = refl
-lost false = refl
-
-outside : (m cmd : List ℕ) (k n : ℕ) → k < n → eqb (bit_and (get_or cmd (suc k) 0) (get_or m k 0)) (get_or cmd (suc k) 0) ≡ false → false ≡ in_masks m cmd n
+behind : (c : ℕ) (xs m : List ℕ) (n : ℕ) → n ≤ length xs → n ≤ length m → list_all within (zip (take n xs) m) ≡ in_masks m (c ∷ xs) n
 unfolding in_masks
-outside m cmd k zero h f = absurd (not-suc-le-zero h)
-outside m cmd k (suc n) h f = by (eqb k n) refl (outside m cmd k n)
-  where
-    by : (t : Bool) → eqb k n ≡ t → (k < n → eqb (bit_and (get_or cmd (suc k) 0) (get_or m k 0)) (get_or cmd (suc k) 0) ≡ false → false ≡ in_masks m cmd n) → false ≡ in_masks m cmd (suc n)
-    by true q ih = rw (← eqb-true k n q, f) (lost (in_masks m cmd k))
-    by false q ih = rw (← ih (omega (arith, eqb-false k n q)) f) refl
+behind c xs m zero h g = refl
+behind c [] m (suc n) h g = absurd (omega arith)
+behind c (x ∷ xs) [] (suc n) h g = absurd (omega arith)
+behind c (x ∷ xs) (a ∷ m) (suc n) h g = rw (behind x xs m n (omega arith) (omega arith)) (front m xs a c x n)
 
-pub masks_outside : (m cmd : List ℕ) (k n : ℕ) → k < n → (bit_and (get_or cmd (k + 1) 0) (get_or m k 0) ≡ get_or cmd (k + 1) 0 → ⊥) → false ≡ in_masks m cmd n
-masks_outside m cmd k n h f = outside m cmd k n h (ne_eqb _ _ (rw (add-one k) at f))
+-- the bytes of a command block from byte 1 on beside their masks, in order
+pub all_within : (cmd m : List ℕ) (n : ℕ) → n ≤ length cmd → n ≤ length m + 1 → list_all within (zip (drop 1 (take n cmd)) m) ≡ in_masks m cmd (n - 1)
+unfolding in_masks
+all_within cmd m zero h g = refl
+all_within [] m (suc n) h g = absurd (omega arith)
+all_within (c ∷ xs) m (suc n) h g = let e : suc n - 1 ≡ n = omega arith in rw e (behind c xs m n (omega arith) (omega arith))
 
 -- a mask that a row does not list is 0
 padded : (m : List ℕ) (k j : ℕ) → get_or (m ++ replicate j 0) k 0 ≡ get_or m k 0

@@ -5,6 +5,7 @@ ghost use Rattle.codes.specs.Fields.{fixed_of, sili_of, transfer_of, space_code_
 use words::{be24_at, be32_at, be64_at, signed24, signed64};
 
 // FIXED, of READ and WRITE.
+#[tactic(auto, unfolding(crate::specs::Fields::fixed_of))]
 pub fn fixed(cmd: &[u8]) -> bool
     requires { 2 ≤ length cmd.now }
     ensures { result ≡ fixed_of cmd.now }
@@ -13,6 +14,7 @@ pub fn fixed(cmd: &[u8]) -> bool
 }
 
 // SILI, of READ.
+#[tactic(auto, using(crate::proofs::Flags::flags), unfolding(crate::specs::Fields::sili_of))]
 pub fn sili(cmd: &[u8]) -> bool
     requires { 2 ≤ length cmd.now }
     ensures { result ≡ sili_of cmd.now }
@@ -21,6 +23,7 @@ pub fn sili(cmd: &[u8]) -> bool
 }
 
 // The length of READ and WRITE, and the count of WRITE FILEMARKS.
+#[tactic(auto, unfolding(crate::specs::Fields::transfer_of))]
 pub fn transfer(cmd: &[u8]) -> u32
     requires { 5 ≤ length cmd.now }
     ensures { result ≡ transfer_of cmd.now }
@@ -29,6 +32,7 @@ pub fn transfer(cmd: &[u8]) -> u32
 }
 
 // What SPACE counts.
+#[tactic(auto, unfolding(crate::specs::Fields::space_code_of))]
 pub fn space_code(cmd: &[u8]) -> u8
     requires { 2 ≤ length cmd.now }
     ensures { result ≡ space_code_of cmd.now }
@@ -37,6 +41,7 @@ pub fn space_code(cmd: &[u8]) -> u8
 }
 
 // The count of SPACE.
+#[tactic(auto, unfolding(crate::specs::Fields::space_count_of))]
 pub fn space_count(cmd: &[u8]) -> i64
     requires { 5 ≤ length cmd.now }
     ensures { result ≡ space_count_of cmd.now }
@@ -45,6 +50,7 @@ pub fn space_count(cmd: &[u8]) -> i64
 }
 
 // The count of SPACE (16).
+#[tactic(auto, unfolding(crate::specs::Fields::space_count16_of))]
 pub fn space_count16(cmd: &[u8]) -> i64
     requires { 12 ≤ length cmd.now }
     ensures { result ≡ space_count16_of cmd.now }
@@ -53,6 +59,7 @@ pub fn space_count16(cmd: &[u8]) -> i64
 }
 
 // LONG, of ERASE.
+#[tactic(auto, unfolding(crate::specs::Fields::long_of))]
 pub fn long(cmd: &[u8]) -> bool
     requires { 2 ≤ length cmd.now }
     ensures { result ≡ long_of cmd.now }
@@ -61,6 +68,7 @@ pub fn long(cmd: &[u8]) -> bool
 }
 
 // CP, of LOCATE.
+#[tactic(auto, using(crate::proofs::Flags::flags), unfolding(crate::specs::Fields::changes_partition))]
 pub fn changes_partition(cmd: &[u8]) -> bool
     requires { 2 ≤ length cmd.now }
     ensures { result ≡ changes_partition cmd.now }
@@ -69,6 +77,7 @@ pub fn changes_partition(cmd: &[u8]) -> bool
 }
 
 // The object of LOCATE.
+#[tactic(auto, unfolding(crate::specs::Fields::object_of))]
 pub fn object(cmd: &[u8]) -> u32
     requires { 7 ≤ length cmd.now }
     ensures { result ≡ object_of cmd.now }
@@ -77,6 +86,7 @@ pub fn object(cmd: &[u8]) -> u32
 }
 
 // The partition of LOCATE.
+#[tactic(auto, unfolding(crate::specs::Fields::partition_of))]
 pub fn partition(cmd: &[u8]) -> u8
     requires { 9 ≤ length cmd.now }
     ensures { result ≡ partition_of cmd.now }
@@ -85,6 +95,7 @@ pub fn partition(cmd: &[u8]) -> u8
 }
 
 // The destination of LOCATE (16).
+#[tactic(auto, unfolding(crate::specs::Fields::destination_of))]
 pub fn destination(cmd: &[u8]) -> u8
     requires { 2 ≤ length cmd.now }
     ensures { result ≡ destination_of cmd.now }
@@ -93,6 +104,7 @@ pub fn destination(cmd: &[u8]) -> u8
 }
 
 // The partition of LOCATE (16).
+#[tactic(auto, unfolding(crate::specs::Fields::partition16_of))]
 pub fn partition16(cmd: &[u8]) -> u8
     requires { 4 ≤ length cmd.now }
     ensures { result ≡ partition16_of cmd.now }
@@ -101,6 +113,7 @@ pub fn partition16(cmd: &[u8]) -> u8
 }
 
 // The identifier of LOCATE (16).
+#[tactic(auto, unfolding(crate::specs::Fields::identifier_of))]
 pub fn identifier(cmd: &[u8]) -> u64
     requires { 12 ≤ length cmd.now }
     ensures { result ≡ identifier_of cmd.now }
@@ -109,6 +122,7 @@ pub fn identifier(cmd: &[u8]) -> u64
 }
 
 // LOAD, of LOAD UNLOAD.
+#[tactic(auto, unfolding(crate::specs::Fields::load_of))]
 pub fn load(cmd: &[u8]) -> bool
     requires { 5 ≤ length cmd.now }
     ensures { result ≡ load_of cmd.now }
@@ -117,6 +131,7 @@ pub fn load(cmd: &[u8]) -> bool
 }
 
 // The form of READ POSITION.
+#[tactic(auto, unfolding(crate::specs::Fields::form_of))]
 pub fn form(cmd: &[u8]) -> u8
     requires { 2 ≤ length cmd.now }
     ensures { result ≡ form_of cmd.now }
@@ -125,6 +140,7 @@ pub fn form(cmd: &[u8]) -> u8
 }
 
 // DBD, of MODE SENSE.
+#[tactic(auto, using(crate::proofs::Flags::flags), unfolding(crate::specs::Fields::dbd_of))]
 pub fn dbd(cmd: &[u8]) -> bool
     requires { 2 ≤ length cmd.now }
     ensures { result ≡ dbd_of cmd.now }
@@ -133,6 +149,7 @@ pub fn dbd(cmd: &[u8]) -> bool
 }
 
 // The page of MODE SENSE.
+#[tactic(auto, unfolding(crate::specs::Fields::page_of))]
 pub fn page(cmd: &[u8]) -> u8
     requires { 3 ≤ length cmd.now }
     ensures { result ≡ page_of cmd.now }
@@ -141,6 +158,7 @@ pub fn page(cmd: &[u8]) -> u8
 }
 
 // PF, of MODE SELECT.
+#[tactic(auto, using(crate::proofs::Flags::flags), unfolding(crate::specs::Fields::pf_of))]
 pub fn pf(cmd: &[u8]) -> bool
     requires { 2 ≤ length cmd.now }
     ensures { result ≡ pf_of cmd.now }
@@ -149,6 +167,7 @@ pub fn pf(cmd: &[u8]) -> bool
 }
 
 // The bit of REQUEST SENSE that asks for the sense in descriptor form.
+#[tactic(auto, unfolding(crate::specs::Fields::asks_descriptors))]
 pub fn asks_descriptors(cmd: &[u8]) -> bool
     requires { 2 ≤ length cmd.now }
     ensures { result ≡ asks_descriptors cmd.now }
@@ -157,6 +176,7 @@ pub fn asks_descriptors(cmd: &[u8]) -> bool
 }
 
 // The allocation of REQUEST SENSE and MODE SENSE, and the list length of MODE SELECT.
+#[tactic(auto, unfolding(crate::specs::Fields::allocation_of))]
 pub fn allocation(cmd: &[u8]) -> u8
     requires { 5 ≤ length cmd.now }
     ensures { result ≡ allocation_of cmd.now }

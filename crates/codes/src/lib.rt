@@ -13,8 +13,4 @@ pub use fields::{
     load, long, object, page, partition, partition16, pf, sili, space_code, space_count,
     space_count16, transfer,
 };
-pub use operation::{
-    ERASE, LOAD_UNLOAD, LOCATE, LOCATE_16, MODE_SELECT, MODE_SENSE, NOT_SERVED, Operation, READ,
-    READ_BLOCK_LIMITS, READ_POSITION, REQUEST_SENSE, REWIND, SPACE, SPACE_16, WRITE,
-    WRITE_FILEMARKS, number_of, operation_of,
-};
+pub use operation::Operation;

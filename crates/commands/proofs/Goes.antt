@@ -15,7 +15,7 @@ use Rattle.objects.specs.Object.{Object, block, data_of, bytes_in, largest_block
 use Rattle.objects.specs.Room.{trailer_length, entry_length, room_of, fits_in}
 use Rattle.objects.specs.Events.{Event, put, cut, happen, happens}
 use Rattle.objects.proofs.Count.{bytes_snoc}
-use Rattle.changes.proofs.Placed.{Holdable}
+use Rattle.changes.specs.Holdable.{Holdable, AllHoldable}
 use Rattle.record.specs.declared.drive.Drive.{Drive}
 use Rattle.codes.specs.declared.operation.Operation.{Operation}
 use Rattle.codes.specs.declared.operation.Operation.TheVariants.{Write, WriteFilemarks}
@@ -23,7 +23,7 @@ use Rattle.codes.specs.Codes.{code_of, operation_of}
 use Rattle.codes.specs.Fields.{fixed_of, transfer_of}
 use Rattle.objects.specs.Transfer.{blocks_of, fitting, put_from}
 use Rattle.objects.proofs.Fitting.{fitting_more, fitting_none}
-use Rattle.changes.proofs.Down.{AllHoldable, marks_kept, blocks_kept}
+use Rattle.changes.proofs.Down.{marks_kept, blocks_kept}
 use Rattle.commands.specs.Stop.{Stop, refuse, attend, fault}
 use Rattle.answers.specs.Answers.{first}
 use Rattle.commands.specs.Kinds.{needs_cartridge}

@@ -1,4 +1,3 @@
-pub mod Among
 pub mod Wrong
 pub mod Long
 pub mod Faultless

@@ -13,23 +13,11 @@ use codes::Operation;
 use kinds::{HEADER_LENGTH, WHOLE_LENGTH};
 use record::Drive;
 
-// Whether two commands are the same one, by their numbers.
-pub fn is_same(o: Operation, x: Operation) -> bool
-    ensures { result ≡ among (x ∷ []) o }
-{
-    let n = codes::number_of(o);
-    let m = codes::number_of(x);
-    n == m
-}
-
 // Whether an attention waits that the command does not pass.
 pub fn attention_waits(o: Operation, d: Drive) -> bool
     ensures { result ≡ not (eqb d.attention no_attention) && not (passes_attention o) }
 {
-    if d.attention == record::NO_ATTENTION {
-        return false;
-    }
-    !kinds::passes_attention(o)
+    d.attention != record::NO_ATTENTION && !kinds::passes_attention(o)
 }
 
 // Whether a field of a served command is wrong, by the masks or beyond them.
@@ -37,23 +25,15 @@ pub fn is_any_field_wrong(o: Operation, d: Drive, cmd: &[u8]) -> bool
     requires { (too_short cmd.now ≡ false) × (5 ≤ length cmd.now) }
     ensures { result ≡ not (masks_hold cmd.now) || field_error o d cmd.now }
 {
-    if !codes::masks_hold(cmd) {
-        return true;
-    }
-    kinds::is_field_wrong(o, d, cmd)
+    !codes::masks_hold(cmd) || kinds::is_field_wrong(o, d, cmd)
 }
 
 // Whether a list length is 0, 4 or 12.
+#[tactic(auto, unfolding(commands::specs::Parameters::list_length_known))]
 fn is_list_length(n: u8) -> bool
     ensures { result ≡ list_length_known n }
 {
-    if n == 0 {
-        return true;
-    }
-    if n as usize == HEADER_LENGTH {
-        return true;
-    }
-    n as usize == WHOLE_LENGTH
+    matches!(n as usize, 0 | HEADER_LENGTH | WHOLE_LENGTH)
 }
 
 // Whether it is MODE SELECT with a list length other than 0, 4 and 12.
@@ -61,42 +41,30 @@ pub fn is_list_length_wrong(o: Operation, cmd: &[u8]) -> bool
     requires { 5 ≤ length cmd.now }
     ensures { result ≡ among (ModeSelect ∷ []) o && not (list_length_known (allocation_of cmd.now)) }
 {
-    if !is_same(o, Operation::ModeSelect) {
-        return false;
-    }
-    !is_list_length(codes::allocation(cmd))
+    o == Operation::ModeSelect && !is_list_length(codes::allocation(cmd))
 }
 
 // Whether it needs a cartridge and none is loaded.
 pub fn is_without_cartridge(o: Operation, d: Drive) -> bool
     ensures { result ≡ needs_cartridge o && eqb d.loaded 0 }
 {
-    if !kinds::needs_cartridge(o) {
-        return false;
-    }
-    d.loaded == 0
+    kinds::needs_cartridge(o) && d.loaded == 0
 }
 
 // Whether it is LOCATE to a partition that the cartridge does not have.
+#[tactic(auto, using(commands::proofs::Long::locate_long_lem))]
 pub fn is_partition_wrong(o: Operation, d: Drive, cmd: &[u8]) -> bool
     requires { (too_short cmd.now ≡ false) × (o ≡ operation_of (code_of cmd.now)) }
     ensures { result ≡ locates o && changes_partition cmd.now && leb d.partitions (named_partition o cmd.now) }
 {
-    if !kinds::locates(o) {
-        return false;
-    }
-    if !codes::changes_partition(cmd) {
-        return false;
-    }
-    d.partitions <= kinds::named_partition(o, cmd)
+    kinds::locates(o)
+        && codes::changes_partition(cmd)
+        && d.partitions <= kinds::named_partition(o, cmd)
 }
 
 // Whether write protection stops it.
 pub fn is_write_stopped(o: Operation, guarded: bool) -> bool
     ensures { result ≡ writes o && guarded }
 {
-    if !kinds::writes(o) {
-        return false;
-    }
-    guarded
+    kinds::writes(o) && guarded
 }

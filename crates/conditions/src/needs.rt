@@ -7,23 +7,21 @@ ghost use Rattle.commands.specs.Act.{short_form, sense_reply};
 ghost use Rattle.commands.specs.Tests.{reply_length};
 ghost use Rattle.commands.specs.Tests.{taken, needed};
 
-use crate::conditions::is_same;
 use codes::Operation;
 use kinds::{HEADER_LENGTH, LIMITS_LENGTH, LONG_LENGTH, SHORT_FORM, SHORT_LENGTH, WHOLE_LENGTH};
 use record::Drive;
 
 // How many bytes the command takes from the data sent.
+#[tactic(auto, unfolding(commands::specs::Tests::taken))]
 pub fn taken(o: Operation, d: Drive, cmd: &[u8]) -> u64
     requires { 5 ≤ length cmd.now }
     ensures { result ≡ taken o d cmd.now }
 {
-    if is_same(o, Operation::Write) {
-        return kinds::bytes_asked(d, cmd);
+    match o {
+        Operation::Write => kinds::bytes_asked(d, cmd),
+        Operation::ModeSelect => u64::from(codes::allocation(cmd)),
+        _ => 0,
     }
-    if is_same(o, Operation::ModeSelect) {
-        return codes::allocation(cmd) as u64;
-    }
-    0
 }
 
 // The smaller of the allocation and a reply's length.
@@ -31,11 +29,7 @@ fn limited(cmd: &[u8], n: u64) -> u64
     requires { 5 ≤ length cmd.now }
     ensures { result ≡ min (allocation_of cmd.now) n }
 {
-    let a = codes::allocation(cmd) as u64;
-    if a < n {
-        return a;
-    }
-    n
+    n.min(u64::from(codes::allocation(cmd)))
 }
 
 // The length of the mode data.
@@ -43,10 +37,12 @@ fn mode_length(cmd: &[u8]) -> u64
     requires { 2 ≤ length cmd.now }
     ensures { result ≡ cond (dbd_of cmd.now) header_length whole_length }
 {
-    if codes::dbd(cmd) {
-        return HEADER_LENGTH as u64;
-    }
-    WHOLE_LENGTH as u64
+    let n = if codes::dbd(cmd) {
+        HEADER_LENGTH
+    } else {
+        WHOLE_LENGTH
+    };
+    n as u64
 }
 
 // The length of the position, by its form.
@@ -54,11 +50,12 @@ fn position_length(cmd: &[u8]) -> u64
     requires { 2 ≤ length cmd.now }
     ensures { result ≡ cond (eqb (form_of cmd.now) short_form) short_length long_length }
 {
-    let form = codes::form(cmd);
-    if form == SHORT_FORM {
-        return SHORT_LENGTH as u64;
-    }
-    LONG_LENGTH as u64
+    let n = if codes::form(cmd) == SHORT_FORM {
+        SHORT_LENGTH
+    } else {
+        LONG_LENGTH
+    };
+    n as u64
 }
 
 // The length of the sense, in the form asked for.
@@ -70,32 +67,28 @@ fn sense_length(d: Drive, cmd: &[u8]) -> u64
 }
 
 // The length of its reply: the same whatever it sees of the partition.
+#[tactic(auto, unfolding(commands::specs::Tests::reply_length))]
 fn reply_length(o: Operation, d: Drive, cmd: &[u8]) -> u64
     requires { 5 ≤ length cmd.now }
     ensures { result ≡ reply_length o d cmd.now }
 {
-    if is_same(o, Operation::RequestSense) {
-        return limited(cmd, sense_length(d, cmd));
+    match o {
+        Operation::RequestSense => limited(cmd, sense_length(d, cmd)),
+        Operation::ReadBlockLimits => LIMITS_LENGTH as u64,
+        Operation::ModeSense => limited(cmd, mode_length(cmd)),
+        Operation::ReadPosition => position_length(cmd),
+        _ => 0,
     }
-    if is_same(o, Operation::ReadBlockLimits) {
-        return LIMITS_LENGTH as u64;
-    }
-    if is_same(o, Operation::ModeSense) {
-        return limited(cmd, mode_length(cmd));
-    }
-    if is_same(o, Operation::ReadPosition) {
-        return position_length(cmd);
-    }
-    0
 }
 
 // How many bytes of the receiving buffer it may need.
+#[tactic(auto, unfolding(commands::specs::Tests::needed))]
 pub fn needed(o: Operation, d: Drive, cmd: &[u8]) -> u64
     requires { 5 ≤ length cmd.now }
     ensures { result ≡ needed o d cmd.now }
 {
-    if is_same(o, Operation::Read) {
-        return kinds::bytes_asked(d, cmd);
+    match o {
+        Operation::Read => kinds::bytes_asked(d, cmd),
+        _ => reply_length(o, d, cmd),
     }
-    reply_length(o, d, cmd)
 }

@@ -9,7 +9,7 @@ use record::Drive;
 use sense::Sense;
 
 // The drive with its sense replaced, the SCSI status, the bytes carried, the objects crossed.
-#[derive(Clone, Copy)]
+#[derive(Clone, Copy, Debug, PartialEq, Eq)]
 pub struct Left {
     pub drive: Drive,
     pub status: u8,
@@ -20,27 +20,27 @@ pub struct Left {
 const GOOD: u8 = 0x00;
 
 // GOOD, with the empty sense.
+#[tactic(auto, unfolding(commands::specs::Step::status_of, commands::specs::Step::kept_of))]
 pub fn good(d: Drive, carried: u32) -> Left
     ensures { result ≡ left_by (carrying carried (good d)) }
 {
-    let kept = record::with_sense(d, sense::empty());
     Left {
-        drive: kept,
+        drive: record::with_sense(d, sense::empty()),
         status: GOOD,
-        carried: carried,
+        carried,
         crossed: 0,
     }
 }
 
 // CHECK CONDITION, with this sense.
+#[tactic(auto, unfolding(commands::specs::Step::status_of, commands::specs::Step::kept_of))]
 pub fn checked(d: Drive, s: Sense, carried: u32) -> Left
     ensures { result ≡ left_by (carrying carried (checked d s)) }
 {
-    let kept = record::with_sense(d, sense::bytes_of(s));
     Left {
-        drive: kept,
+        drive: record::with_sense(d, s.into()),
         status: answers::CHECK_CONDITION,
-        carried: carried,
+        carried,
         crossed: 0,
     }
 }
@@ -49,36 +49,35 @@ pub fn checked(d: Drive, s: Sense, carried: u32) -> Left
 pub fn crossing(l: Left, n: u32) -> Left
     ensures { result ≡ left_crossing n l }
 {
-    let mut e = l;
-    e.crossed = n;
-    e
+    Left { crossed: n, ..l }
 }
 
 // The drive at position n.
 pub fn at(d: Drive, n: u32) -> Drive
     ensures { result ≡ at d n }
 {
-    let mut e = d;
-    e.position = n;
-    e
+    Drive { position: n, ..d }
 }
 
 // The partition that LOCATE, of either length, goes to.
+#[tactic(auto, unfolding(commands::specs::Act::target_of))]
 pub fn target_of(o: Operation, d: Drive, cmd: &[u8]) -> u8
     requires { 9 ≤ length cmd.now }
     ensures { result ≡ target_of o d cmd.now }
 {
     if codes::changes_partition(cmd) {
-        return kinds::named_partition(o, cmd);
+        kinds::named_partition(o, cmd)
+    } else {
+        d.current
     }
-    d.current
 }
 
 // The drive with no attention waiting.
 pub fn unattended(d: Drive) -> Drive
     ensures { result ≡ unattended d }
 {
-    let mut e = d;
-    e.attention = record::NO_ATTENTION;
-    e
+    Drive {
+        attention: record::NO_ATTENTION,
+        ..d
+    }
 }

@@ -2,14 +2,15 @@
 #![tactic(auto)]
 
 ghost use Rattle.std.specs.Prelude.{◌≡◌};
+ghost use Rattle.answers.specs.Answers.{answer_of};
 ghost use Rattle.commands.specs.Call.{lent, outcome, drive_call};
 ghost use Rattle.step.specs.Served.{outcome_of};
 
-use answers::Answer;
+use answers::{Refusal, Reply};
 use record::Drive;
 use step::Served;
 
-// One command on the lent drive.
+// One command on the lent drive, which a refusal leaves as it was.
 pub fn serve(
     d: &mut Drive,
     cmd: &[u8],
@@ -17,12 +18,12 @@ pub fn serve(
     p1: &mut [u8],
     sent: &[u8],
     received: &mut [u8],
-) -> Answer
-    ensures { outcome result d.new (lent cmd.now p0.new p1.new sent.now received.new) ≡ drive_call d.old (lent cmd.now p0.old p1.old sent.now received.old) }
+) -> Result<Reply, Refusal>
+    ensures { outcome (answer_of result) d.new (lent cmd.now p0.new p1.new sent.now received.new) ≡ drive_call d.old (lent cmd.now p0.old p1.old sent.now received.old) }
 {
-    let n = step::serve_by_value(*d, cmd, p0, p1, sent, received);
-    *d = n.drive;
-    n.answer
+    let served = step::serve_by_value(*d, cmd, p0, p1, sent, received)?;
+    *d = served.drive;
+    Ok(served.reply)
 }
 
 // One command on a drive by value, which is lent to `serve` as a local and taken back: so that a caller, as the entry point for C, takes and
@@ -34,13 +35,10 @@ pub fn serve_lent(
     p1: &mut [u8],
     sent: &[u8],
     received: &mut [u8],
-) -> Served
-    ensures { outcome_of result (lent cmd.now p0.new p1.new sent.now received.new) ≡ drive_call d (lent cmd.now p0.old p1.old sent.now received.old) }
+) -> Result<Served, Refusal>
+    ensures { outcome_of d result (lent cmd.now p0.new p1.new sent.now received.new) ≡ drive_call d (lent cmd.now p0.old p1.old sent.now received.old) }
 {
-    let mut e = d;
-    let a = serve(&mut e, cmd, p0, p1, sent, received);
-    Served {
-        drive: e,
-        answer: a,
-    }
+    let mut drive = d;
+    let reply = serve(&mut drive, cmd, p0, p1, sent, received)?;
+    Ok(Served { drive, reply })
 }

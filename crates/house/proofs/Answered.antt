@@ -15,7 +15,8 @@ fresh_answers rec = settled_by_lem _ rec _ (first_fits (fresh_tests rec) (omega 
 
 pub mount_answers : (rec p0 p1 : List ℕ) → ByNumber (mount_call rec p0 p1).answer
 unfolding mount_call mount_fault
-mount_answers rec p0 p1 = settled_by_lem _ rec _ (first_fits (mount_tests rec p0 p1) (omega arith, (omega arith, (omega arith, (omega arith, tt)))))
+mount_answers rec p0 p1 =
+    settled_by_lem _ rec _ (first_fits (mount_tests rec p0 p1) (omega arith, (omega arith, (omega arith, (omega arith, tt)))))
 
 pub blank_answers : (s : List ℕ) → ByNumber (blank_call s).answer
 unfolding blank_call

@@ -1,4 +1,3 @@
-pub mod Mounted
-pub mod Cases
 pub mod Answered
 pub mod Made
+pub mod Mounted

@@ -1,58 +1,44 @@
 // A cartridge of one or two partition slices: its lengths, its soundness, and whether a record may mount it.
-ghost use Rattle.std.specs.Prelude.{◌≡◌};
+ghost use Rattle.std.specs.Prelude.{◌≡◌, ◌&&◌, ◌||◌, Bool, List, ℕ};
+ghost use Rattle.answers.specs.Answers.{fault_number};
+ghost use Rattle.image.specs.Image.{absent};
 ghost use Rattle.house.specs.Mount.{right_lengths, both_sound, partitions_of, mount_fault};
+
+use answers::Refusal;
 
 // How many partitions are lent: an empty second slice is absent.
 pub fn partitions_of(p1: &[u8]) -> u8
     ensures { result ≡ partitions_of p1.now }
 {
-    if p1.len() == 0 {
-        return 1;
-    }
-    2
+    if p1.is_empty() { 1 } else { 2 }
 }
 
-// Whether both slices have a right length, as far as they are lent.
-pub fn have_right_lengths(p0: &[u8], p1: &[u8]) -> bool
-    ensures { result ≡ right_lengths p0.now p1.now }
+// Whether both slices pass a test, as far as they are lent; `rule` is what the test computes.
+fn both_pass<F: Fn(&[u8]) -> bool>(p0: &[u8], p1: &[u8], test: F) -> bool
+    requires { F.IsAlwaysCallable test }
+    ensures { (rule : List ℕ → Bool)
+        → ((p : _) (passes : _) → F.post test p passes → passes ≡ rule p.now)
+        → result ≡ (rule p0.now && (absent p1.now || rule p1.now)) }
 {
-    if !image::has_right_length(p0) {
-        return false;
-    }
-    if p1.len() == 0 {
-        return true;
-    }
-    image::has_right_length(p1)
+    test(p0) && (p1.is_empty() || test(p1))
 }
 
-// Whether both slices are sound, as far as they are lent.
-pub fn are_sound(p0: &[u8], p1: &[u8]) -> bool
-    ensures { result ≡ both_sound p0.now p1.now }
-{
-    if !image::is_sound(p0) {
-        return false;
-    }
-    if p1.len() == 0 {
-        return true;
-    }
-    image::is_sound(p1)
-}
-
-// The refusal of a mount: 4 for the record, 5, 7 for both slices, then 6; 0 for none.
-pub fn mount_fault(rec: &[u8], p0: &[u8], p1: &[u8]) -> u8
-    ensures { result ≡ mount_fault rec.now p0.now p1.now }
+// The refusal of a mount: for the record, while loaded, for a length of the slices, then where one is not sound.
+#[tactic(auto, using(crate::proofs::Mounted::faults, record::proofs::Judged::record_parts), unfolding(answers::specs::Answers::first))]
+pub fn mount_fault(rec: &[u8], p0: &[u8], p1: &[u8]) -> Result<(), Refusal>
+    ensures { fault_number result ≡ mount_fault rec.now p0.now p1.now }
 {
     if !record::is_record(rec) {
-        return answers::RECORD_FAULT;
+        return Err(Refusal::RecordFault);
     }
     if rec[record::LOADED] == 1 {
-        return answers::ALREADY_LOADED;
+        return Err(Refusal::AlreadyLoaded);
     }
-    if !have_right_lengths(p0, p1) {
-        return answers::WRONG_LENGTH;
+    if !both_pass(p0, p1, |p| image::has_right_length(p)) {
+        return Err(Refusal::WrongLength);
     }
-    if !are_sound(p0, p1) {
-        return answers::UNSOUND_IMAGE;
+    if !both_pass(p0, p1, |p| image::is_sound(p)) {
+        return Err(Refusal::UnsoundImage);
     }
-    0
+    Ok(())
 }

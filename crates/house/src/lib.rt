@@ -1,4 +1,5 @@
-// The house services over bytes that may refuse: fresh, mount, blank, protection. None has a `requires`: what is not right is refused by number.
+// The house services over bytes that may refuse: fresh, mount, blank, protection. None has a `requires`: what is not
+// right is a `Refusal`.
 #![tactic(auto)]
 
 mod cartridge;

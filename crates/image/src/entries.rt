@@ -1,7 +1,8 @@
 // The trailer and the directory read: N, flags, entries, ends, kinds, room, zone.
 ghost use Rattle.std.specs.Prelude.{◌≡◌, ◌+◌, ◌*◌, ◌^◌, ◌<◌, ◌≤◌, length};
 ghost use Rattle.objects.specs.Room.{trailer_length, entry_length};
-ghost use Rattle.image.specs.Image.{most_length, count, flags, protected, entry, top_bit, low31, end_at, room, fits, zone, filemarks_before};
+ghost use Rattle.image.specs.Image.{most_length, count, flags, directory, size, protected, entry, top_bit, low31, end_at};
+ghost use Rattle.image.specs.Image.{room, fits, zone, filemarks_before};
 
 use words::be32_at;
 
@@ -27,6 +28,7 @@ const END: u32 = 0x7fff_ffff;
 const WARNING_SHARE: usize = 16;
 
 // N.
+#[tactic(auto, unfolding(crate::specs::Image::count))]
 pub fn count_of(s: &[u8]) -> u32
     requires { trailer_length ≤ length s.now }
     ensures { result ≡ count s.now }
@@ -35,6 +37,7 @@ pub fn count_of(s: &[u8]) -> u32
 }
 
 // The flags.
+#[tactic(auto, unfolding(crate::specs::Image::flags))]
 pub fn flags_of(s: &[u8]) -> u32
     requires { trailer_length ≤ length s.now }
     ensures { result ≡ flags s.now }
@@ -42,7 +45,26 @@ pub fn flags_of(s: &[u8]) -> u32
     be32_at(s, s.len() - FLAGS)
 }
 
+// D, the directory's start.
+#[tactic(auto, unfolding(crate::specs::Image::directory))]
+pub fn directory_of(s: &[u8]) -> u32
+    requires { trailer_length ≤ length s.now }
+    ensures { result ≡ directory s.now }
+{
+    be32_at(s, s.len() - DIRECTORY)
+}
+
+// L, as the trailer has it.
+#[tactic(auto, unfolding(crate::specs::Image::size))]
+pub fn size_of(s: &[u8]) -> u32
+    requires { trailer_length ≤ length s.now }
+    ensures { result ≡ size s.now }
+{
+    be32_at(s, s.len() - SIZE)
+}
+
 // Whether it is protected: flag bit 0.
+#[tactic(auto, unfolding(crate::specs::Image::protected))]
 pub fn is_protected(s: &[u8]) -> bool
     requires { trailer_length ≤ length s.now }
     ensures { result ≡ protected s.now }
@@ -51,6 +73,7 @@ pub fn is_protected(s: &[u8]) -> bool
 }
 
 // The entry of object i.
+#[tactic(auto, unfolding(crate::specs::Image::entry))]
 pub fn entry_at(s: &[u8], i: usize) -> u32
     requires { entry_length * (i + 1) + trailer_length ≤ length s.now }
     ensures { result ≡ entry s.now i }
@@ -59,6 +82,7 @@ pub fn entry_at(s: &[u8], i: usize) -> u32
 }
 
 // An entry's low 31 bits: the end of its object's data.
+#[tactic(auto, unfolding(crate::specs::Image::low31))]
 pub fn end_of(e: u32) -> u32
     ensures { result ≡ low31 e }
 {
@@ -66,6 +90,7 @@ pub fn end_of(e: u32) -> u32
 }
 
 // An entry's top bit: a filemark.
+#[tactic(auto, unfolding(crate::specs::Image::top_bit))]
 pub fn marks(e: u32) -> bool
     ensures { result ≡ top_bit e }
 {
@@ -73,14 +98,16 @@ pub fn marks(e: u32) -> bool
 }
 
 // The end of object n - 1; 0 at n = 0.
+#[tactic(auto, using(crate::proofs::Facts::end_before, crate::proofs::Facts::end_lt), unfolding(crate::specs::Image::end_at))]
 pub fn end_at(s: &[u8], n: usize) -> u32
     requires { entry_length * n + trailer_length ≤ length s.now }
     ensures { (result ≡ end_at s.now n) × (result < 2 ^ 31) }
 {
     if n == 0 {
-        return 0;
+        0
+    } else {
+        end_of(entry_at(s, n - 1))
     }
-    end_of(entry_at(s, n - 1))
 }
 
 // Whether object i is a filemark.
@@ -92,28 +119,27 @@ pub fn is_filemark(s: &[u8], i: usize) -> bool
 }
 
 // The room at n.
+#[tactic(auto, unfolding(crate::specs::Image::room, crate::specs::Image::used))]
 pub fn room_at(s: &[u8], n: usize) -> usize
     requires { entry_length * n + trailer_length ≤ length s.now }
     ensures { result ≡ room s.now n }
 {
     let used = ENTRY * n + end_at(s, n) as usize;
-    let all = s.len() - TRAILER;
-    if all < used { 0 } else { all - used }
+    (s.len() - TRAILER).saturating_sub(used)
 }
 
 // Whether an object with k bytes of data fits at number n, by the room there.
+#[tactic(auto, unfolding(crate::specs::Image::fits))]
 pub fn object_fits(s: &[u8], n: usize, k: usize) -> bool
     requires { entry_length * n + trailer_length ≤ length s.now }
     ensures { result ≡ fits s.now n k }
 {
     let room = room_at(s, n);
-    if room < ENTRY {
-        return false;
-    }
-    k <= room - ENTRY
+    ENTRY <= room && k <= room - ENTRY
 }
 
 // Whether position n is in the early-warning zone.
+#[tactic(auto, unfolding(crate::specs::Image::zone, crate::specs::Image::room))]
 pub fn in_zone(s: &[u8], n: usize) -> bool
     requires { (entry_length * n + trailer_length ≤ length s.now) × (length s.now ≤ most_length) }
     ensures { result ≡ zone s.now n }
@@ -126,11 +152,5 @@ pub fn filemarks_before(s: &[u8], n: usize) -> usize
     requires { entry_length * n + trailer_length ≤ length s.now }
     ensures { result ≡ filemarks_before s.now n }
 {
-    let mut found: usize = 0;
-    let mut i: usize = 0;
-    while i < n {
-        found += (entry_at(s, i) >> TOP) as usize;
-        i += 1;
-    }
-    found
+    (0..n).map(|i| usize::from(is_filemark(s, i))).sum()
 }

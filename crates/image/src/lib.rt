@@ -4,6 +4,7 @@
 mod entries;
 mod part;
 mod sound;
+mod whole;
 
 pub use entries::{
     DIRECTORY, ENTRY, FILEMARK, FLAGS, SIZE, TRAILER, count_of, end_at, filemarks_before, flags_of,
@@ -11,3 +12,4 @@ pub use entries::{
 };
 pub use part::{Part, block_at, block_part};
 pub use sound::{fault_of, has_right_length, is_sound};
+pub use whole::Image;

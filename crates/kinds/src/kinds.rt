@@ -1,56 +1,43 @@
-// What kind of command an operation is, by its number.
+// What kind of command an operation is.
 ghost use Rattle.std.specs.Prelude.{◌≡◌, ◌≤◌, length};
 ghost use Rattle.commands.specs.Kinds.{passes_attention, is_served, needs_cartridge};
 ghost use Rattle.commands.specs.Kinds.{locates, writes};
 ghost use Rattle.commands.specs.Act.{named_partition};
 
-use codes::{
-    ERASE, LOCATE, LOCATE_16, MODE_SELECT, MODE_SENSE, NOT_SERVED, Operation, READ_BLOCK_LIMITS,
-    REQUEST_SENSE, WRITE, WRITE_FILEMARKS,
-};
+use codes::Operation;
 
 // Whether the attention lets it pass.
 pub fn passes_attention(o: Operation) -> bool
     ensures { result ≡ passes_attention o }
 {
-    let n = codes::number_of(o);
-    n == REQUEST_SENSE
+    o == Operation::RequestSense
 }
 
 // Whether it is served.
 pub fn is_served(o: Operation) -> bool
     ensures { result ≡ is_served o }
 {
-    let n = codes::number_of(o);
-    n != NOT_SERVED
+    o != Operation::NotServed
 }
 
 // Whether it needs a cartridge.
 pub fn needs_cartridge(o: Operation) -> bool
     ensures { result ≡ needs_cartridge o }
 {
-    let n = codes::number_of(o);
-    if n == REQUEST_SENSE {
-        return false;
-    }
-    if n == READ_BLOCK_LIMITS {
-        return false;
-    }
-    if n == MODE_SELECT {
-        return false;
-    }
-    n != MODE_SENSE
+    !matches!(
+        o,
+        Operation::RequestSense
+            | Operation::ReadBlockLimits
+            | Operation::ModeSelect
+            | Operation::ModeSense
+    )
 }
 
 // Whether it is LOCATE, of either length.
 pub fn locates(o: Operation) -> bool
     ensures { result ≡ locates o }
 {
-    let n = codes::number_of(o);
-    if n == LOCATE {
-        return true;
-    }
-    n == LOCATE_16
+    matches!(o, Operation::Locate | Operation::Locate16)
 }
 
 // The partition that LOCATE names.
@@ -58,23 +45,19 @@ pub fn named_partition(o: Operation, cmd: &[u8]) -> u8
     requires { 9 ≤ length cmd.now }
     ensures { result ≡ named_partition o cmd.now }
 {
-    let n = codes::number_of(o);
-    if n == LOCATE_16 {
-        return codes::partition16(cmd);
+    if o == Operation::Locate16 {
+        codes::partition16(cmd)
+    } else {
+        codes::partition(cmd)
     }
-    codes::partition(cmd)
 }
 
 // Whether write protection stops it.
 pub fn writes(o: Operation) -> bool
     ensures { result ≡ writes o }
 {
-    let n = codes::number_of(o);
-    if n == WRITE {
-        return true;
-    }
-    if n == WRITE_FILEMARKS {
-        return true;
-    }
-    n == ERASE
+    matches!(
+        o,
+        Operation::Write | Operation::WriteFilemarks | Operation::Erase
+    )
 }

@@ -1,6 +1,4 @@
 pub mod Example
-pub mod Digits
-pub mod Appended
+pub mod Decimal
 pub mod Refused
 pub mod Lines
-pub mod Listed

@@ -3,8 +3,7 @@
 use Rattle.std.specs.Prelude.{ℕ, suc, cond, List, [], ◌∷◌, ◌++◌, length, leb, eqb}
 use Rattle.answers.specs.Answers.{wrong_length}
 use Rattle.objects.specs.Object.{Object, filemark, block}
-use Rattle.image.specs.Image.{count, room, objects}
-use Rattle.image.specs.Image.{fault_of}
+use Rattle.image.specs.Image.{count, room, objects, fault_of}
 use Rattle.listing.specs.Text.{decimal, word_objects, word_free, word_block, word_filemark, word_refused, newline}
 
 -- "input above 65,536 bytes counts as 7"

@@ -9,7 +9,8 @@ use mathlib.Core.Bool.{true, false}
 use mathlib.Core.Option.{some}
 use mathlib.Core.List.{List}
 use borrow.Author.Tests.{le-ltb}
-use lib.IntN.{ℤ, pos, negsuc, neg_ℤ}
+use lib.IntN.{ℤ, pos, negsuc, neg_ℤ, nat_abs}
+use lib.Signed.{lt_z}
 use lib.ListN.{length, drop, length-drop}
 use Rattle.words.specs.Signed.{fits32}
 use Rattle.objects.specs.Object.{Object}
@@ -29,15 +30,19 @@ most = 2 ^ 32 - 1
 
 -- ---- of the objects of an image there are fewer
 
-pub few : (s : List ℕ) → sound s ≡ true → length (objects s) < 2 ^ 30
+few : (s : List ℕ) → sound s ≡ true → length (objects s) < 2 ^ 30
 few s h = omega (arith, length_objects s, (sound_parts s h).dir_is, (sound_parts s h).most)
 
-pub walk_bounded : (c : Code) (n : ℕ) (xs : List Object) → length xs < 2 ^ 30 → walk c (min n most) xs ≡ walk c n xs
+walk_bounded : (c : Code) (n : ℕ) (xs : List Object) → length xs < 2 ^ 30 → walk c (min n most) xs ≡ walk c n xs
 walk_bounded c n xs h = go (dec_le n most)
   where
     go : Dec (n ≤ most) → walk c (min n most) xs ≡ walk c n xs
     go (yes k) = ap (λ (m : ℕ). walk c m xs) (let e : min n most ≡ n = omega arith in e)
     go (no k) = walk_beyond c (min n most) n xs (omega arith) (omega arith)
+
+-- over the objects of an image
+pub walk_cut : (c : Code) (n : ℕ) (s : List ℕ) → sound s ≡ true → walk c (min n most) (objects s) ≡ walk c n (objects s)
+walk_cut c n s h = walk_bounded c n (objects s) (few s h)
 
 -- ---- two counts that go one way, and whose residues do not fit, leave the same
 
@@ -96,7 +101,7 @@ module _ (d : Drive) (s : List ℕ) (v : Seen) (h : sound s ≡ true) (l : d.pos
   far : (k k' : ℤ) → OneWay k k' → space c k p xs ≡ space c k' p xs → Unfit k → Unfit k' → by k ≡ by k'
   far k k' w e a b = ap (λ (m : Move). moved d v k m) e ∙ unfit d v (space c k' p xs) k k' w (subst (λ (m : Move). fits32 (residue k m) ≡ false) e a) b
 
-  pub far_on : (n : ℕ) → by (pos (min n most)) ≡ by (pos n)
+  far_on : (n : ℕ) → by (pos (min n most)) ≡ by (pos n)
   far_on n = go (dec_le n most)
     where
       same : space c (pos (min n most)) p xs ≡ space c (pos n) p xs
@@ -122,8 +127,17 @@ module _ (d : Drive) (s : List ℕ) (v : Seen) (h : sound s ≡ true) (l : d.pos
       go (yes k) = ap (λ (j : ℕ). by (negsuc j)) (let q : m ≡ n = omega arith in q)
       go (no k) = far (negsuc m) (negsuc n) tt same (rest m (omega arith)) (rest n (omega arith))
 
-  pub far_back : (n : ℕ) → 0 < n → by (neg_ℤ (pos (min n most))) ≡ by (neg_ℤ (pos n))
+  far_back : (n : ℕ) → 0 < n → by (neg_ℤ (pos (min n most))) ≡ by (neg_ℤ (pos n))
   far_back zero k = absurd (let z : ⊥ = omega arith in z)
   far_back (suc n) k =
       let e : min (suc n) most ≡ suc (min (suc n) most - 1) = omega arith in
       ap (λ (m : ℕ). by (neg_ℤ (pos m))) e ∙ back_as n (min (suc n) most - 1) (sym e)
+
+  -- by as many as 32 bits hold of what the count z asks for
+  pub as_far_on : (z : ℤ) → lt_z z (pos 0) ≡ false → by (pos (min (nat_abs z) most)) ≡ by z
+  as_far_on (pos n) e = far_on n
+  as_far_on (negsuc n) e = absurd (let w : ◌≡◌ {A = ℕ} 0 1 = cc in omega arith)
+
+  pub as_far_back : (z : ℤ) → lt_z z (pos 0) ≡ true → by (neg_ℤ (pos (min (nat_abs z) most))) ≡ by z
+  as_far_back (pos n) e = absurd (let w : ⊥ = grind arith in w)
+  as_far_back (negsuc n) e = far_back (suc n) (omega arith)

@@ -1,4 +1,3 @@
-pub mod Magnitudes
 pub mod Beyond
 pub mod Located
 pub mod Spaced

@@ -1,43 +1,21 @@
 // SPACE, of either length: the walk over blocks or filemarks, where it ends, what it tells, and how many objects it crossed.
-ghost use Rattle.std.specs.Prelude.{◌≡◌, true, cond, ◌≤◌, ◌<◌, eqb, pos, neg_ℤ, ◌-ℤ◌, length, drop};
-ghost use Rattle.objects.specs.Movement.{blocks, filemarks, walk, before};
-ghost use Rattle.objects.specs.Movement.{space};
-ghost use Rattle.image.specs.Image.{count, sound, objects};
+ghost use Rattle.std.specs.Prelude.{◌≡◌, cond, ◌≤◌, ◌<◌, eqb, pos, neg_ℤ, ◌-ℤ◌, length};
+ghost use Rattle.objects.specs.Movement.{blocks, filemarks, space};
+ghost use Rattle.image.specs.Image.{count, objects};
 ghost use Rattle.sense.specs.Sense.{Shows};
 ghost use Rattle.codes.specs.Fields.{space_code_of, space_count_of, space_count16_of};
-ghost use Rattle.walks.specs.Walks.{walk_of};
+ghost use Rattle.walks.specs.Walks.{code_of};
 ghost use Rattle.commands.specs.Act.{carrying, good, checked, moved, over_blocks, spacing};
 ghost use Rattle.commands.specs.Call.{seen_of};
 ghost use Rattle.deeds.specs.Left.{left_by, left_crossing};
 
-use crate::counts::{bounded, magnitude};
+use crate::counts::bounded;
 use deeds::Left;
+use image::Image;
 use kinds::{OVER_BLOCKS, TO_END};
 use record::Drive;
-use sense::{PAST_32_BITS, Residue, Sense};
-use walks::{Walked, Why, blocks_back, blocks_on, filemarks_back, filemarks_on};
-
-// The walk on from p over n of what the code counts.
-fn walk_on(s: &[u8], code: u8, p: u32, n: u32) -> Walked
-    requires { (sound s.now ≡ true) × (p ≤ count s.now) }
-    ensures { walk_of result ≡ walk (cond (eqb code over_blocks) blocks filemarks) n (drop p (objects s.now)) }
-{
-    if code == OVER_BLOCKS {
-        return blocks_on(s, p, n);
-    }
-    filemarks_on(s, p, n)
-}
-
-// The walk back from p over n of what the code counts.
-fn walk_back(s: &[u8], code: u8, p: u32, n: u32) -> Walked
-    requires { (sound s.now ≡ true) × (p ≤ count s.now) }
-    ensures { walk_of result ≡ walk (cond (eqb code over_blocks) blocks filemarks) n (before p (objects s.now)) }
-{
-    if code == OVER_BLOCKS {
-        return blocks_back(s, p, n);
-    }
-    filemarks_back(s, p, n)
-}
+use sense::{PAST_32_BITS, Sense};
+use walks::{Back, Counted, On, Why, walk};
 
 // GOOD there, with so many objects crossed.
 fn reaches(there: Drive, crossed: u32) -> Left
@@ -54,84 +32,89 @@ fn halts(there: Drive, told: Sense, crossed: u32) -> Left
 }
 
 // SPACE by the count n: the residue is n - counted.
-fn space_on(s: &[u8], d: Drive, code: u8, n: u32) -> Left
-    requires { (sound s.now ≡ true) × (d.position ≤ count s.now) }
-    ensures { result ≡ left_by (moved d (seen_of s.now) (pos n) (space (cond (eqb code over_blocks) blocks filemarks) (pos n) d.position (objects s.now))) }
+#[tactic(auto, using(crate::proofs::Spaced::going_on))]
+fn space_on(image: &Image, d: Drive, what: Counted, n: u32) -> Left
+    requires { d.position ≤ count image.now.bytes }
+    ensures { result ≡ left_by (moved d (seen_of image.now.bytes) (pos n) (space (code_of what) (pos n) d.position (objects image.now.bytes))) }
 {
-    let w = walk_on(s, code, d.position, n);
-    let why = w.why;
+    let w = walk::<On>(image, d.position, what, n);
     let gone = deeds::at(d, d.position + w.crossed);
-    match why {
+    match w.why {
         Why::Done => reaches(gone, w.crossed),
         Why::Marked => halts(gone, deeds::filemark_met(n, w.counted), w.crossed),
-        Why::Edge => halts(gone, deeds::end_met(s, n, w.counted), w.crossed),
+        Why::Edge => halts(gone, deeds::end_met(image, n, w.counted), w.crossed),
     }
 }
 
-// The residue of a SPACE by the count -n: -n less -counted, each in two's complement.
-fn residue_back(n: u32, counted: u32) -> Residue
+// The residue of a SPACE by the count -n, where 32 signed bits hold it: -n less -counted, each in two's complement.
+#[tactic(auto, using(crate::proofs::Spaced::shown_back))]
+fn residue_back(n: u32, counted: u32) -> Option<u32>
     requires { counted ≤ n }
     ensures { Shows result (neg_ℤ (pos n) -ℤ neg_ℤ (pos counted)) }
 {
     let fits = n - counted <= PAST_32_BITS;
     let request = words::difference(0, n);
     let actual = words::difference(0, counted);
-    Residue {
-        fits,
-        request,
-        actual,
-    }
+    fits.then_some(words::difference(request, actual))
 }
 
 // SPACE by the count -n.
-fn space_back(s: &[u8], d: Drive, code: u8, n: u32) -> Left
-    requires { (sound s.now ≡ true) × (d.position ≤ count s.now) × (0 < n) }
-    ensures { result ≡ left_by (moved d (seen_of s.now) (neg_ℤ (pos n)) (space (cond (eqb code over_blocks) blocks filemarks) (neg_ℤ (pos n)) d.position (objects s.now))) }
+#[tactic(auto, using(crate::proofs::Spaced::going_back))]
+fn space_back(image: &Image, d: Drive, what: Counted, n: u32) -> Left
+    requires { (d.position ≤ count image.now.bytes) × (0 < n) }
+    ensures { result ≡ left_by (moved d (seen_of image.now.bytes) (neg_ℤ (pos n)) (space (code_of what) (neg_ℤ (pos n)) d.position (objects image.now.bytes))) }
 {
-    let w = walk_back(s, code, d.position, n);
-    let why = w.why;
+    let w = walk::<Back>(image, d.position, what, n);
     let gone = deeds::at(d, d.position - w.crossed);
     let rest = residue_back(n, w.counted);
-    match why {
+    match w.why {
         Why::Done => reaches(gone, w.crossed),
         Why::Marked => halts(gone, deeds::filemark_told(rest), w.crossed),
         Why::Edge => halts(gone, deeds::beginning_met(rest), w.crossed),
     }
 }
 
-// SPACE by a code and a count, at the position of a sound partition.
-fn space_by(s: &[u8], d: Drive, code: u8, steps: i64) -> Left
-    requires { (sound s.now ≡ true) × (d.position ≤ count s.now) }
-    ensures { result ≡ left_by (spacing d code steps (seen_of s.now)) }
+// What the code counts, where it is not "to end of data".
+fn counted_by(code: u8) -> Counted
+    ensures { code_of result ≡ cond (eqb code over_blocks) blocks filemarks }
+{
+    if code == OVER_BLOCKS {
+        Counted::Blocks
+    } else {
+        Counted::Filemarks
+    }
+}
+
+// SPACE by a code and a count, at the position of a partition.
+#[tactic(auto, using(crate::proofs::Spaced::going_by))]
+fn space_by(image: &Image, d: Drive, code: u8, steps: i64) -> Left
+    requires { d.position ≤ count image.now.bytes }
+    ensures { result ≡ left_by (spacing d code steps (seen_of image.now.bytes)) }
 {
     if code == TO_END {
-        let end = image::count_of(s);
-        let far = end - d.position;
-        return reaches(deeds::at(d, end), far);
+        let end = image.count();
+        return reaches(deeds::at(d, end), end - d.position);
     }
-    let n = bounded(magnitude(steps));
+    let what = counted_by(code);
+    let n = bounded(steps.unsigned_abs());
     if steps < 0 {
-        return space_back(s, d, code, n);
+        return space_back(image, d, what, n);
     }
-    space_on(s, d, code, n)
+    space_on(image, d, what, n)
 }
 
 // SPACE (6).
-pub fn space(s: &[u8], d: Drive, cmd: &[u8]) -> Left
-    requires { (sound s.now ≡ true) × (d.position ≤ count s.now) × (5 ≤ length cmd.now) }
-    ensures { result ≡ left_by (spacing d (space_code_of cmd.now) (space_count_of cmd.now) (seen_of s.now)) }
+pub fn space(image: &Image, d: Drive, cmd: &[u8]) -> Left
+    requires { (d.position ≤ count image.now.bytes) × (5 ≤ length cmd.now) }
+    ensures { result ≡ left_by (spacing d (space_code_of cmd.now) (space_count_of cmd.now) (seen_of image.now.bytes)) }
 {
-    let code = codes::space_code(cmd);
-    let steps = codes::space_count(cmd);
-    space_by(s, d, code, steps)
+    space_by(image, d, codes::space_code(cmd), codes::space_count(cmd))
 }
 
 // SPACE (16): another decoder of the count.
-pub fn space16(s: &[u8], d: Drive, cmd: &[u8]) -> Left
-    requires { (sound s.now ≡ true) × (d.position ≤ count s.now) × (12 ≤ length cmd.now) }
-    ensures { result ≡ left_by (spacing d (space_code_of cmd.now) (space_count16_of cmd.now) (seen_of s.now)) }
+pub fn space16(image: &Image, d: Drive, cmd: &[u8]) -> Left
+    requires { (d.position ≤ count image.now.bytes) × (12 ≤ length cmd.now) }
+    ensures { result ≡ left_by (spacing d (space_code_of cmd.now) (space_count16_of cmd.now) (seen_of image.now.bytes)) }
 {
-    let code = codes::space_code(cmd);
-    let steps = codes::space_count16(cmd);
-    space_by(s, d, code, steps)
+    space_by(image, d, codes::space_code(cmd), codes::space_count16(cmd))
 }

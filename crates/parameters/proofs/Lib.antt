@@ -1,3 +1,1 @@
 pub mod Positioned
-pub mod Replying
-pub mod Selected

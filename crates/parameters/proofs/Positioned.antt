@@ -1,17 +1,14 @@
 -- What READ POSITION answers, in its two forms, from the image's numbers.
 -- Assumes nothing.
-use Prim.Native.Nat.{ℕ, ◌^◌, ◌≤◌, ◌<◌}
-use native.Mathlib.Omega.{arith}
-use mathlib.Core.Path.{◌≡◌, refl, ◌∙◌}
+use Prim.Native.Nat.{ℕ, ◌≤◌}
+use mathlib.Core.Path.{◌≡◌, refl, ap, ◌∙◌}
 use mathlib.Core.Bool.{Bool, true}
 use mathlib.Core.List.{List, []}
 use borrow.Author.Tests.{eq-eqb, ne_eqb}
-use lib.ListN.{length, take, length-take}
-use Rattle.words.specs.Words.{bytes}
+use lib.ListN.{length, take}
+use Rattle.words.specs.Words.{bytes, over}
 use Rattle.objects.specs.Object.{filemarks_in}
-use Rattle.objects.proofs.Count.{filemarks_le}
-use Rattle.image.specs.Image.{count, sound, objects, zone, filemarks_before}
-use Rattle.image.proofs.Facts.{sound_parts}
+use Rattle.image.specs.Image.{count, sound, zone, filemarks_before}
 use Rattle.image.proofs.Objects.{filemarks_before_lem}
 use Rattle.record.specs.declared.drive.Drive.{Drive}
 use Rattle.codes.specs.declared.operation.Operation.TheVariants.{ReadPosition}
@@ -22,12 +19,6 @@ use Rattle.commands.specs.Act.{Seen, carrying, good, zone_at, short_form, reply_
 use Rattle.commands.specs.Call.{seen_of}
 use Rattle.commands.proofs.Zone.{zone_seen}
 use Rattle.deeds.specs.Left.{left_by}
-
--- no more filemarks than objects
-pub filemarks_fit : (s : List ℕ) → sound s ≡ true → (n m : ℕ) → n ≤ count s → m ≡ filemarks_before s n → m < 2 ^ 32
-filemarks_fit s h n m g e =
-    let k = sound_parts s h in
-    omega (arith, e, filemarks_before_lem s n g, filemarks_le (take n (objects s)), length-take n (objects s), k.dir_is, k.most)
 
 short_length_lem : (p n : ℕ) (z : Bool) → length (short_position p n z) ≡ 20
 unfolding short_position bytes
@@ -71,3 +62,7 @@ module _ (d : Drive) (cmd s b : List ℕ) (e : b ≡ reply_of ReadPosition d cmd
   pub long_left : (m : ℕ) → b ≡ long_position p n z m → r ≡ left_by (carrying 32 (good d)) → r ≡ left_by (act ReadPosition d cmd [] (seen_of s))
   unfolding act
   long_left m q w = w ∙ rw (← e, q, long_length_lem p n z m) refl
+
+-- a reply a, made as b, is laid over the buffer
+pub reply_laid : (a b s t : List ℕ) → b ≡ a → t ≡ over s 0 b → t ≡ over s 0 a
+reply_laid a b s t e q = q ∙ ap (over s 0) e

@@ -10,9 +10,10 @@ ghost use Rattle.deeds.specs.Left.{left_by, protected_only};
 use deeds::Left;
 use payloads::{block_limits, mode_data, mode_header, sense_asked};
 use record::Drive;
-use sense::SENSE_LENGTH;
+use sense::{SENSE_LENGTH, Sense};
 
 // A sense in the form asked for, cut at an allocation, with a receiving buffer that is long enough; how many bytes that were.
+#[tactic(auto, unfolding(sense::specs::Descriptors::in_form))]
 fn give_sense(
     b: &[u8; SENSE_LENGTH],
     descriptors: bool,
@@ -25,7 +26,7 @@ fn give_sense(
     if !descriptors {
         return words::copy_limited(received, b, allocation);
     }
-    let s = sense::parts_of(b);
+    let s = Sense::from(b);
     if s.valid {
         let both = sense::with_information(s);
         return words::copy_limited(received, &both, allocation);
@@ -35,6 +36,7 @@ fn give_sense(
 }
 
 // REQUEST SENSE, with a receiving buffer that is long enough.
+#[tactic(auto, unfolding(commands::specs::Act::act, commands::specs::Act::reply_of))]
 pub fn request_sense(d: Drive, cmd: &[u8], received: &mut [u8]) -> Left
     requires { (5 ≤ length cmd.now) × (length (reply_of RequestSense d cmd.now nothing) ≤ length received.old) }
     ensures { (result ≡ left_by (act RequestSense d cmd.now [] nothing)) × (received.new ≡ over received.old 0 (reply_of RequestSense d cmd.now nothing)) }
@@ -47,6 +49,7 @@ pub fn request_sense(d: Drive, cmd: &[u8], received: &mut [u8]) -> Left
 }
 
 // READ BLOCK LIMITS, with a receiving buffer that is long enough.
+#[tactic(auto, unfolding(commands::specs::Act::act, commands::specs::Act::reply_of, commands::specs::Parameters::block_limits))]
 pub fn read_block_limits(d: Drive, received: &mut [u8]) -> Left
     requires { length (reply_of ReadBlockLimits d [] nothing) ≤ length received.old }
     ensures { (result ≡ left_by (act ReadBlockLimits d [] [] nothing)) × (received.new ≡ over received.old 0 (reply_of ReadBlockLimits d [] nothing)) }
@@ -57,6 +60,7 @@ pub fn read_block_limits(d: Drive, received: &mut [u8]) -> Left
 }
 
 // MODE SENSE of a partition that is protected or not, with a receiving buffer that is long enough.
+#[tactic(auto, unfolding(commands::specs::Act::act, commands::specs::Act::reply_of, commands::specs::Parameters::mode_data))]
 pub fn mode_sense(d: Drive, cmd: &[u8], guarded: bool, received: &mut [u8]) -> Left
     requires { (5 ≤ length cmd.now) × (length (reply_of ModeSense d cmd.now (protected_only guarded)) ≤ length received.old) }
     ensures { (result ≡ left_by (act ModeSense d cmd.now [] (protected_only guarded))) × (received.new ≡ over received.old 0 (reply_of ModeSense d cmd.now (protected_only guarded))) }

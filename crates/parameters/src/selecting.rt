@@ -8,17 +8,20 @@ ghost use Rattle.deeds.specs.Left.{left_by};
 use deeds::Left;
 use payloads::{is_list_right, new_length};
 use record::Drive;
+use sense::{Code, Flags};
 
 // The drive with block length n.
 fn with_length(d: Drive, n: u32) -> Drive
     ensures { result ≡ with_length d n }
 {
-    let mut e = d;
-    e.block_length = n;
-    e
+    Drive {
+        block_length: n,
+        ..d
+    }
 }
 
 // MODE SELECT, with as many bytes sent as it takes.
+#[tactic(auto, unfolding(commands::specs::Act::selecting, commands::specs::Parameters::list_length_known))]
 pub fn select(d: Drive, cmd: &[u8], sent: &[u8]) -> Left
     requires { (5 ≤ length cmd.now) × (list_length_known (allocation_of cmd.now) ≡ true) × (allocation_of cmd.now ≤ length sent.now) }
     ensures { result ≡ left_by (selecting d cmd.now sent.now) }
@@ -28,17 +31,7 @@ pub fn select(d: Drive, cmd: &[u8], sent: &[u8]) -> Left
         return deeds::good(d, 0);
     }
     if !is_list_right(n, sent) {
-        let rest = sense::residue_of(0, 0);
-        let told = sense::told(
-            false,
-            false,
-            false,
-            false,
-            sense::ILLEGAL_REQUEST,
-            sense::INVALID_LIST_FIELD,
-            sense::UNQUALIFIED,
-            rest,
-        );
+        let told = sense::told(false, Flags::NONE, Code::INVALID_LIST_FIELD, None);
         return deeds::checked(d, told, 0);
     }
     if n as usize == kinds::WHOLE_LENGTH {

@@ -1,3 +1,1 @@
-pub mod Senses
-pub mod Lists
 pub mod Spelt

@@ -5,31 +5,21 @@ use mathlib.Core.Bool.{Bool, true, false, cond}
 use mathlib.Core.List.{List, [], ◌∷◌, ◌++◌}
 use Prim.Native.Nat.{ℕ, ◌+◌, ◌*◌, ◌/◌, ◌%◌, ◌^◌, ◌<◌}
 use native.Mathlib.Omega.{arith}
-use lib.Bits.{bit_and, bit_or}
+use lib.Bits.{bit_or}
 use lib.Dec.{eqb}
 use mir.Val.{bool_byte}
 use Rattle.words.specs.Words.{bytes}
 use Rattle.words.proofs.Laws.{bytes_split}
-use Rattle.words.proofs.Stores.{low8, three_bytes, four_bytes}
-use Rattle.objects.specs.Object.{largest_block}
+use Rattle.words.proofs.Stores.{three_bytes, four_bytes}
 use Rattle.commands.specs.Parameters.{block_limits, mode_data, position_flags, short_position, long_position}
 
-pub limits : 0 ∷ bit_and (largest_block / 65536) 255 ∷ bit_and (largest_block / 256) 255 ∷ bit_and largest_block 255 ∷ 0 ∷ 1 ∷ [] ≡ block_limits
+pub limits : block_limits ≡ 0 ∷ 1048576 / 65536 % 256 ∷ 1048576 / 256 % 256 ∷ 1048576 % 256 ∷ 0 ∷ 1 ∷ []
 unfolding block_limits bytes
 limits = refl
 
-pub bit7 : (g : Bool) → bool_byte g * 128 % 256 ≡ cond g 0x80 0x00
-bit7 true = refl
-bit7 false = refl
-
-pub header : (g : Bool) (wp : ℕ) → wp ≡ cond g 0x80 0x00 → 3 ∷ 0 ∷ wp ∷ 0 ∷ [] ≡ mode_data true g 0
+pub descriptor : (g : Bool) (n : ℕ) → mode_data false g n ≡ 0x0B ∷ 0 ∷ cond g 0x80 0x00 ∷ 8 ∷ 0 ∷ 0 ∷ 0 ∷ 0 ∷ 0 ∷ n / 65536 % 256 ∷ n / 256 % 256 ∷ n % 256 ∷ []
 unfolding mode_data
-header g wp e = rw e refl
-
-pub descriptor : (g : Bool) (wp n : ℕ) → wp ≡ cond g 0x80 0x00
-    → 0x0B ∷ 0 ∷ wp ∷ 8 ∷ 0 ∷ 0 ∷ 0 ∷ 0 ∷ 0 ∷ bit_and (n / 65536) 255 ∷ bit_and (n / 256) 255 ∷ bit_and n 255 ∷ [] ≡ mode_data false g n
-unfolding mode_data
-descriptor g wp n e = rw (e, three_bytes n, low8 (n / 65536), low8 (n / 256), low8 n) refl
+descriptor g n = rw (three_bytes n) refl
 
 pub flagged : (p : ℕ) (z : Bool) → bit_or (bool_byte (eqb p 0) * 128 % 256) (bool_byte z * 64 % 256) ≡ position_flags p z
 flagged p z = by (eqb p 0) z
@@ -40,11 +30,11 @@ flagged p z = by (eqb p 0) z
     by false true = refl
     by false false = refl
 
-pub short : (k p : ℕ) (z : Bool) (f : ℕ) → f ≡ position_flags p z
-    → f ∷ k ∷ 0 ∷ 0 ∷ bit_and (p / 16777216) 255 ∷ bit_and (p / 65536) 255 ∷ bit_and (p / 256) 255 ∷ bit_and p 255
-    ∷ bit_and (p / 16777216) 255 ∷ bit_and (p / 65536) 255 ∷ bit_and (p / 256) 255 ∷ bit_and p 255 ∷ 0 ∷ 0 ∷ 0 ∷ 0 ∷ 0 ∷ 0 ∷ 0 ∷ 0 ∷ [] ≡ short_position k p z
+pub short : (k p : ℕ) (z : Bool)
+    → short_position k p z ≡ position_flags p z ∷ k ∷ 0 ∷ 0 ∷ p / 16777216 % 256 ∷ p / 65536 % 256 ∷ p / 256 % 256 ∷ p % 256
+    ∷ p / 16777216 % 256 ∷ p / 65536 % 256 ∷ p / 256 % 256 ∷ p % 256 ∷ 0 ∷ 0 ∷ 0 ∷ 0 ∷ 0 ∷ 0 ∷ 0 ∷ 0 ∷ []
 unfolding short_position
-short k p z f e = rw (e, four_bytes p, low8 (p / 16777216), low8 (p / 65536), low8 (p / 256), low8 p) refl
+short k p z = rw (four_bytes p) refl
 
 -- a number of one byte in four, and of four bytes in eight
 one_in_four : (k : ℕ) → k < 256 → bytes 4 k ≡ 0 ∷ 0 ∷ 0 ∷ k ∷ []
@@ -60,9 +50,8 @@ four_in_eight v h =
     let q : v / 2 ^ 32 ≡ 0 = omega arith in
     bytes_split 4 4 v ∙ ap₂ (λ (a b : List ℕ). a ++ b) (ap (bytes 4) q ∙ one_in_four 0 (omega arith)) (four_bytes v)
 
-pub long : (k p n : ℕ) (z : Bool) (f : ℕ) → f ≡ position_flags p z → k < 256 → p < 2 ^ 32 → n < 2 ^ 32
-    → f ∷ 0 ∷ 0 ∷ 0 ∷ 0 ∷ 0 ∷ 0 ∷ k ∷ 0 ∷ 0 ∷ 0 ∷ 0 ∷ bit_and (p / 16777216) 255 ∷ bit_and (p / 65536) 255 ∷ bit_and (p / 256) 255 ∷ bit_and p 255
-    ∷ 0 ∷ 0 ∷ 0 ∷ 0 ∷ bit_and (n / 16777216) 255 ∷ bit_and (n / 65536) 255 ∷ bit_and (n / 256) 255 ∷ bit_and n 255 ∷ 0 ∷ 0 ∷ 0 ∷ 0 ∷ 0 ∷ 0 ∷ 0 ∷ 0 ∷ [] ≡ long_position k p z n
+pub long : (k p n : ℕ) (z : Bool) → k < 256 → p < 2 ^ 32 → n < 2 ^ 32
+    → long_position k p z n ≡ position_flags p z ∷ 0 ∷ 0 ∷ 0 ∷ 0 ∷ 0 ∷ 0 ∷ k ∷ 0 ∷ 0 ∷ 0 ∷ 0 ∷ p / 16777216 % 256 ∷ p / 65536 % 256 ∷ p / 256 % 256 ∷ p % 256
+    ∷ 0 ∷ 0 ∷ 0 ∷ 0 ∷ n / 16777216 % 256 ∷ n / 65536 % 256 ∷ n / 256 % 256 ∷ n % 256 ∷ 0 ∷ 0 ∷ 0 ∷ 0 ∷ 0 ∷ 0 ∷ 0 ∷ 0 ∷ []
 unfolding long_position
-long k p n z f e hk hp hn =
-    rw (e, one_in_four k hk, four_in_eight p hp, four_in_eight n hn, low8 (p / 16777216), low8 (p / 65536), low8 (p / 256), low8 p, low8 (n / 16777216), low8 (n / 65536), low8 (n / 256), low8 n) refl
+long k p n z hk hp hn = rw (one_in_four k hk, four_in_eight p hp, four_in_eight n hn) refl

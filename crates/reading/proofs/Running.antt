@@ -8,22 +8,19 @@ use mathlib.Core.Bool.{Bool, true, false}
 use mathlib.Core.List.{List, [], ◌∷◌}
 use borrow.Author.Tests.{eqb-true}
 use lib.Dec.{eqb}
-use lib.IntN.{sub_ℕ}
 use lib.ListN.{length, take, drop, length-append, length-drop, take-append-drop}
 use lib.Seq.{take_all}
-use Rattle.sense.specs.declared.Sense.{Sense}
 use Rattle.objects.specs.Object.{Object, filemark, block, bytes_in}
 use Rattle.objects.proofs.Count.{bytes_append}
 use Rattle.image.specs.Image.{count, sound, objects}
 use Rattle.image.proofs.Facts.{sound_parts}
 use Rattle.image.proofs.Objects.{length_objects, end_bytes}
 use Rattle.record.specs.declared.drive.Drive.{Drive}
-use Rattle.transfer.specs.declared.runs.Ended.TheVariants.{Whole, OddLength, AtFilemark, AtEnd}
 use Rattle.transfer.specs.declared.runs.Blocks.{Blocks}
 use Rattle.objects.specs.Transfer.{odd_length, Run, halted, whole_before, run_of}
 use Rattle.transfer.specs.Runs.{run_with}
 use Rattle.deeds.specs.declared.deeds.Left.{Left}
-use Rattle.commands.specs.Act.{Seen, carrying, good, checked, at, filemark_met, end_met, odd_met, run_tells, read_run}
+use Rattle.commands.specs.Act.{Seen, carrying, read_run}
 use Rattle.deeds.specs.Left.{left_by}
 
 -- ---- how far a run reaches
@@ -74,24 +71,7 @@ module _ (s : List ℕ) (h : sound s ≡ true) (p b n : ℕ) (g : p ≤ count s)
       let q : r.crossed ≡ (run_of b n (drop p (objects s))).crossed = ap (λ (x : Run). x.crossed) e in
       omega (arith, q, w.within, length-drop p (objects s), length_objects s, k.dir_is, k.most)
 
--- ---- what it leaves, case by case
-
-module _ (d e : Drive) (v : Seen) (n k : ℕ) (run : Blocks) (a : e ≡ at d (d.position + run.crossed)) (r : Left) where
-  pub leaves_whole : run.why ≡ Whole → r ≡ left_by (carrying k (good e)) → r ≡ left_by (carrying k (read_run d v n (run_with run [])))
-  unfolding run_tells
-  leaves_whole w q = q ∙ rw (a, w) refl
-
-  pub leaves_odd : run.why ≡ OddLength → (t : Sense) → t ≡ odd_met (sub_ℕ n run.blocks) → r ≡ left_by (carrying k (checked e t)) → r ≡ left_by (carrying k (read_run d v n (run_with run [])))
-  unfolding run_tells
-  leaves_odd w t et q = q ∙ rw (a, w, et) refl
-
-  pub leaves_marked : run.why ≡ AtFilemark → (t : Sense) → t ≡ filemark_met (sub_ℕ n run.blocks) → r ≡ left_by (carrying k (checked e t)) → r ≡ left_by (carrying k (read_run d v n (run_with run [])))
-  unfolding run_tells
-  leaves_marked w t et q = q ∙ rw (a, w, et) refl
-
-  pub leaves_ended : run.why ≡ AtEnd → (t : Sense) → t ≡ end_met v (sub_ℕ n run.blocks) → r ≡ left_by (carrying k (checked e t)) → r ≡ left_by (carrying k (read_run d v n (run_with run [])))
-  unfolding run_tells
-  leaves_ended w t et q = q ∙ rw (a, w, et) refl
+-- ---- what it leaves
 
 pub run_left : (d : Drive) (v : Seen) (n b : ℕ) (xs : List Object) (run : Blocks) → run_with run (run_of b n xs).bytes ≡ run_of b n xs → (r : Left) → r ≡ left_by (carrying (run.blocks * b) (read_run d v n (run_with run []))) → r ≡ left_by (read_run d v n (run_of b n xs))
 run_left d v n b xs run e r q =

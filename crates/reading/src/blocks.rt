@@ -1,8 +1,8 @@
 // READ: one block of any length, or a run of whole blocks.
-ghost use Rattle.std.specs.Prelude.{◌≡◌, true, false, [], ◌+◌, ◌*◌, ◌≤◌, ◌<◌, ◌^◌, length, take, drop};
+ghost use Rattle.std.specs.Prelude.{◌≡◌, false, [], ◌+◌, ◌*◌, ◌≤◌, ◌<◌, ◌^◌, length, take, drop};
 ghost use Rattle.std.proofs.Math.ListN.{get_elem?};
 ghost use Rattle.words.specs.Words.{over};
-ghost use Rattle.image.specs.Image.{count, sound, objects};
+ghost use Rattle.image.specs.Image.{count, objects};
 ghost use Rattle.codes.specs.declared.operation.Operation.TheVariants.{Read};
 ghost use Rattle.codes.specs.Fields.{transfer_of};
 ghost use Rattle.objects.specs.Transfer.{run_of};
@@ -13,47 +13,43 @@ ghost use Rattle.commands.specs.Call.{seen_of};
 ghost use Rattle.deeds.specs.Left.{left_by};
 
 use deeds::Left;
+use image::Image;
 use record::Drive;
 use transfer::{Blocks, Ended, read_blocks};
 
-// What a run of blocks of the partition s leaves, n having been asked for: the drive behind what was crossed, and why it ended.
-fn run_leaves(s: &[u8], d: Drive, n: u32, run: Blocks, carried: u32) -> Left
-    requires { (sound s.now ≡ true) × (d.position + run.crossed < 2 ^ 32) }
-    ensures { result ≡ left_by (carrying carried (read_run d (seen_of s.now) n (run_with run []))) }
+// What a run of blocks of a partition leaves, n having been asked for: the drive behind what was crossed, and why it ended.
+#[tactic(auto, unfolding(commands::specs::Act::run_tells))]
+fn run_leaves(image: &Image, d: Drive, n: u32, run: Blocks, carried: u32) -> Left
+    requires { d.position + run.crossed < 2 ^ 32 }
+    ensures { result ≡ left_by (carrying carried (read_run d (seen_of image.now.bytes) n (run_with run []))) }
 {
     let e = deeds::at(d, d.position + run.crossed);
     let blocks = run.blocks;
-    let why = run.why;
-    match why {
+    match run.why {
         Ended::Whole => deeds::good(e, carried),
         // Crossed, but not among the blocks that were read.
         Ended::OddLength => deeds::checked(e, deeds::odd_met(n, blocks), carried),
         Ended::AtFilemark => deeds::checked(e, deeds::filemark_met(n, blocks), carried),
-        Ended::AtEnd => deeds::checked(e, deeds::end_met(s, n, blocks), carried),
+        Ended::AtEnd => deeds::checked(e, deeds::end_met(image, n, blocks), carried),
     }
 }
 
 // READ with FIXED: n blocks of the set length.
-fn read_fixed(s: &[u8], d: Drive, n: u32, received: &mut [u8]) -> Left
-    requires { (sound s.now ≡ true) × (d.position ≤ count s.now) × (1 ≤ d.block_length) × (n * d.block_length ≤ length received.old) }
-    ensures { (result ≡ left_by (read_run d (seen_of s.now) n (run_of d.block_length n (drop d.position (objects s.now))))) × (received.new ≡ over received.old 0 (run_of d.block_length n (drop d.position (objects s.now))).bytes) }
+fn read_fixed(image: &Image, d: Drive, n: u32, received: &mut [u8]) -> Left
+    requires { (d.position ≤ count image.now.bytes) × (1 ≤ d.block_length) × (n * d.block_length ≤ length received.old) }
+    ensures { (result ≡ left_by (read_run d (seen_of image.now.bytes) n (run_of d.block_length n (drop d.position (objects image.now.bytes))))) × (received.new ≡ over received.old 0 (run_of d.block_length n (drop d.position (objects image.now.bytes))).bytes) }
 {
-    let run = read_blocks(s, d.position, n, d.block_length, received);
-    run_leaves(s, d, n, run, run.blocks * d.block_length)
+    let run = read_blocks(image, d.position, n, d.block_length, received);
+    run_leaves(image, d, n, run, run.blocks * d.block_length)
 }
 
 // Whether SILI hides that a block has this size, and not the n bytes asked for.
+#[tactic(auto, unfolding(commands::specs::Act::hidden))]
 fn is_hidden(d: Drive, cmd: &[u8], n: u32, size: u32) -> bool
     requires { (2 ≤ length cmd.now) × (n ≡ transfer_of cmd.now) }
     ensures { result ≡ hidden d cmd.now size }
 {
-    if !codes::sili(cmd) {
-        return false;
-    }
-    if size <= n {
-        return true;
-    }
-    d.block_length == 0
+    codes::sili(cmd) && (size <= n || d.block_length == 0)
 }
 
 // READ without FIXED, of n bytes, that meets this block.
@@ -64,45 +60,36 @@ fn read_block(d: Drive, cmd: &[u8], n: u32, block: &[u8], received: &mut [u8]) -
     let size = block.len() as u32;
     let carried = words::copy_limited(received, block, n as usize) as u32;
     let e = deeds::at(d, d.position + 1);
-    if size == n {
-        return deeds::good(e, carried);
-    }
-    if is_hidden(d, cmd, n, size) {
+    if size == n || is_hidden(d, cmd, n, size) {
         return deeds::good(e, carried);
     }
     deeds::checked(e, deeds::odd_met(n, size), carried)
 }
 
 // READ without FIXED, of n bytes: what lies at the position decides.
-fn read_variable(s: &[u8], d: Drive, cmd: &[u8], n: u32, received: &mut [u8]) -> Left
-    requires { (sound s.now ≡ true) × (2 ≤ length cmd.now) × (n ≡ transfer_of cmd.now) × (n ≤ length received.old) }
-    ensures { (result ≡ left_by (read_variable d cmd.now (seen_of s.now) (get_elem? (objects s.now) d.position))) × (received.new ≡ over received.old 0 (read_variable d cmd.now (seen_of s.now) (get_elem? (objects s.now) d.position)).received) }
+fn read_variable(image: &Image, d: Drive, cmd: &[u8], n: u32, received: &mut [u8]) -> Left
+    requires { (2 ≤ length cmd.now) × (n ≡ transfer_of cmd.now) × (n ≤ length received.old) }
+    ensures { (result ≡ left_by (read_variable d cmd.now (seen_of image.now.bytes) (get_elem? (objects image.now.bytes) d.position))) × (received.new ≡ over received.old 0 (read_variable d cmd.now (seen_of image.now.bytes) (get_elem? (objects image.now.bytes) d.position)).received) }
 {
     let p = d.position;
-    if image::count_of(s) <= p {
-        return deeds::checked(d, deeds::end_met(s, n, 0), 0);
+    if image.count() <= p {
+        return deeds::checked(d, deeds::end_met(image, n, 0), 0);
     }
-    let i = p as usize;
-    if image::is_filemark(s, i) {
-        let filemark = deeds::filemark_met(n, 0);
-        return deeds::checked(deeds::at(d, p + 1), filemark, 0);
+    if image.is_filemark(p) {
+        return deeds::checked(deeds::at(d, p + 1), deeds::filemark_met(n, 0), 0);
     }
-    let from = image::end_at(s, i) as usize;
-    let to = image::end_at(s, i + 1) as usize;
-    read_block(d, cmd, n, &s[from..to], received)
+    read_block(d, cmd, n, image.block(p), received)
 }
 
-// READ at the position of a sound partition, with fields that are right and a receiving buffer that is long enough.
-pub fn read(s: &[u8], d: Drive, cmd: &[u8], received: &mut [u8]) -> Left
-    requires { (sound s.now ≡ true) × (d.position ≤ count s.now) × (5 ≤ length cmd.now) × (field_error Read d cmd.now ≡ false) × (bytes_asked d cmd.now ≤ length received.old) }
-    ensures { (result ≡ left_by (reading d cmd.now (seen_of s.now))) × (received.new ≡ over received.old 0 (reading d cmd.now (seen_of s.now)).received) }
+// READ at the position of a partition, with fields that are right and a receiving buffer that is long enough.
+#[tactic(auto, using(words::proofs::Laws::over_nil), unfolding(commands::specs::Act::reading, commands::specs::Call::seen_of))]
+pub fn read(image: &Image, d: Drive, cmd: &[u8], received: &mut [u8]) -> Left
+    requires { (d.position ≤ count image.now.bytes) × (5 ≤ length cmd.now) × (field_error Read d cmd.now ≡ false) × (bytes_asked d cmd.now ≤ length received.old) }
+    ensures { (result ≡ left_by (reading d cmd.now (seen_of image.now.bytes))) × (received.new ≡ over received.old 0 (reading d cmd.now (seen_of image.now.bytes)).received) }
 {
-    let n = codes::transfer(cmd);
-    if n == 0 {
-        return deeds::good(d, 0);
+    match codes::transfer(cmd) {
+        0 => deeds::good(d, 0),
+        n if codes::fixed(cmd) => read_fixed(image, d, n, received),
+        n => read_variable(image, d, cmd, n, received),
     }
-    if codes::fixed(cmd) {
-        return read_fixed(s, d, n, received);
-    }
-    read_variable(s, d, cmd, n, received)
 }

@@ -4,10 +4,9 @@
 use mathlib.Core.Path.{◌≡◌, sym, ap, ◌∙◌}
 use mathlib.Core.List.{List, [], ◌∷◌, ◌++◌}
 use Prim.Native.Nat.{ℕ, ◌+◌, ◌*◌, ◌/◌, ◌%◌, ◌^◌, ◌<◌}
-use native.Mathlib.Numerals.{add-one}
 use native.Mathlib.Omega.{arith}
-use lib.ListN.{length, get_or, set, take, drop, length-append, length-drop}
-use lib.Seq.{take-suc, take-suc-set, take_all, get_or-drop}
+use lib.ListN.{length, get_or, take, drop, length-append, length-drop}
+use lib.Seq.{take_all}
 use Rattle.words.specs.Words.{be, bytes, over}
 use Rattle.words.proofs.Laws.{length_bytes_lem, be_bytes, over_over, over_all, firsts_eq}
 use Rattle.words.proofs.Stores.{four_bytes, four_back, spelt4}
@@ -52,16 +51,6 @@ encode_decode s h b =
   where
     firsts_12 : List ℕ → List ℕ
     firsts_12 s = get_or s 0 0 ∷ get_or s 1 0 ∷ get_or s 2 0 ∷ get_or s 3 0 ∷ get_or s 4 0 ∷ get_or s 5 0 ∷ get_or s 6 0 ∷ get_or s 7 0 ∷ get_or s 8 0 ∷ get_or s 9 0 ∷ get_or s 10 0 ∷ get_or s 11 0 ∷ []
-
--- ---- as the code reads the sense: a turn of its loop, over any list, place and start
-
-pub sense_turn : (x s : List ℕ) (k i : ℕ) → i < length x → k + i < length s → take i x ≡ take i (drop k s) → take (i + 1) (set x i (get_or s (k + i) 0)) ≡ take (i + 1) (drop k s)
-sense_turn x s k i h hs e =
-    let hd : i < length (drop k s) = simp length-drop (omega arith) in
-    rw (add-one, take-suc-set x i (get_or s (k + i) 0) h, take-suc (drop k s) i 0 hd, get_or-drop, e)
-
-pub sense_whole : (x y : List ℕ) (i : ℕ) → i ≡ sense_length → length x ≡ sense_length → take i x ≡ take i y → x ≡ take sense_length y
-sense_whole x y i h e t = sym (take_all i x (omega arith)) ∙ t ∙ ap (λ (n : ℕ). take n y) h
 
 -- a record is its fields: three of them are what the callees ensure
 pub decoded : (s : List ℕ) (p b : ℕ) (x : List ℕ) → p ≡ be 4 s 4 → b ≡ be 4 s 8 → x ≡ take sense_length (drop 12 s)

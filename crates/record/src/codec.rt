@@ -5,8 +5,7 @@ ghost use Rattle.record.specs.Record.{record_length, sense_at, decode_of, encode
 
 use crate::drive::Drive;
 use crate::states::is_well_formed;
-use sense::SENSE_LENGTH;
-use words::{be32_at, copy_at, put32_at};
+use words::{array_at, be32_at, copy_at, put32_at};
 
 pub const RECORD_LENGTH: usize = 30;
 
@@ -25,26 +24,12 @@ const BLOCK_LENGTH: usize = 8;
 
 const SENSE: usize = 12;
 
-// The kept sense of a record.
-fn sense_at(s: &[u8]) -> [u8; SENSE_LENGTH]
-    requires { record_length ≤ length s.now }
-    ensures { result ≡ take sense_length (drop sense_at s.now) }
-{
-    let mut sense = [0u8; SENSE_LENGTH];
-    let mut i: usize = 0;
-    while i < SENSE_LENGTH {
-        sense[i] = s[SENSE + i];
-        i += 1;
-    }
-    sense
-}
-
 // The drive that a record of thirty bytes stands for.
+#[tactic(auto, using(crate::proofs::RoundTrip::decoded))]
 pub fn decode(s: &[u8]) -> Drive
     requires { length s.now ≡ record_length }
     ensures { result ≡ decode_of s.now }
 {
-    let sense = sense_at(s);
     Drive {
         loaded: s[LOADED],
         partitions: s[PARTITIONS],
@@ -52,7 +37,7 @@ pub fn decode(s: &[u8]) -> Drive
         attention: s[ATTENTION],
         position: be32_at(s, POSITION),
         block_length: be32_at(s, BLOCK_LENGTH),
-        sense: sense,
+        sense: array_at(s, SENSE),
     }
 }
 
@@ -61,20 +46,17 @@ pub fn encode(d: Drive, out: &mut [u8])
     requires { length out.old ≡ record_length }
     ensures { out.new ≡ encode_of d }
 {
-    let sense = d.sense;
     let head = [d.loaded, d.partitions, d.current, d.attention];
     copy_at(out, LOADED, &head);
     put32_at(out, POSITION, d.position);
     put32_at(out, BLOCK_LENGTH, d.block_length);
-    copy_at(out, SENSE, &sense);
+    copy_at(out, SENSE, &d.sense);
 }
 
 // Whether s is a record: thirty bytes, and well formed.
+#[tactic(auto, unfolding(crate::specs::Record::well_record))]
 pub fn is_record(s: &[u8]) -> bool
     ensures { result ≡ well_record s.now }
 {
-    if s.len() != RECORD_LENGTH {
-        return false;
-    }
-    is_well_formed(decode(s))
+    s.len() == RECORD_LENGTH && is_well_formed(decode(s))
 }

@@ -1,7 +1,7 @@
 // The drive by value. The kept sense is its eighteen bytes, replaced whole by each command's sense.
 use sense::SENSE_LENGTH;
 
-#[derive(Clone, Copy)]
+#[derive(Clone, Copy, Debug, PartialEq, Eq)]
 pub struct Drive {
     pub loaded: u8,
     pub partitions: u8,

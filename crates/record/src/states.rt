@@ -14,68 +14,47 @@ pub const POWER_ON: u8 = 0x29;
 
 const MOUNTED_BLOCK_LENGTH: u32 = 32768;
 
+#[tactic(auto, unfolding(crate::specs::Record::attention_known))]
 fn is_attention(a: u8) -> bool
     ensures { result ≡ attention_known a }
 {
-    if a == NO_ATTENTION {
-        return true;
-    }
-    if a == MEDIUM_CHANGED {
-        return true;
-    }
-    a == POWER_ON
+    matches!(a, NO_ATTENTION | MEDIUM_CHANGED | POWER_ON)
 }
 
 // Unloaded: partitions, current and position are 0.
+#[tactic(auto, unfolding(crate::specs::Record::empty_handed))]
 fn is_empty_handed(d: Drive) -> bool
     ensures { result ≡ empty_handed d }
 {
-    if d.partitions != 0 {
-        return false;
-    }
-    if d.current != 0 {
-        return false;
-    }
-    d.position == 0
+    d.partitions == 0 && d.current == 0 && d.position == 0
 }
 
 // Loaded: 1 or 2 partitions, current below that.
+#[tactic(auto, unfolding(crate::specs::Record::placed))]
 fn is_placed(d: Drive) -> bool
     ensures { result ≡ placed d }
 {
-    if d.partitions < 1 {
-        return false;
-    }
-    if 2 < d.partitions {
-        return false;
-    }
-    d.current < d.partitions
+    (1..=2).contains(&d.partitions) && d.current < d.partitions
 }
 
 // Whether a drive is well formed, by its record alone.
+#[tactic(auto, unfolding(crate::specs::Record::well_formed))]
 pub fn is_well_formed(d: Drive) -> bool
     ensures { result ≡ well_formed d }
 {
-    if !is_attention(d.attention) {
-        return false;
-    }
-    if objects::LARGEST_BLOCK < d.block_length {
-        return false;
-    }
-    if d.loaded == 0 {
-        return is_empty_handed(d);
-    }
-    if d.loaded != 1 {
-        return false;
-    }
-    is_placed(d)
+    let is_right = match d.loaded {
+        0 => is_empty_handed(d),
+        1 => is_placed(d),
+        _ => false,
+    };
+    is_attention(d.attention) && d.block_length <= objects::LARGEST_BLOCK && is_right
 }
 
 // A fresh drive: nothing loaded, and the attention of power on.
+#[tactic(auto, unfolding(crate::specs::Record::fresh_drive))]
 pub fn fresh_drive() -> Drive
     ensures { result ≡ fresh_drive }
 {
-    let sense = sense::empty();
     Drive {
         loaded: 0,
         partitions: 0,
@@ -83,53 +62,54 @@ pub fn fresh_drive() -> Drive
         attention: POWER_ON,
         position: 0,
         block_length: 0,
-        sense: sense,
+        sense: sense::empty(),
     }
 }
 
 // A drive on which a cartridge of so many partitions was just mounted.
+#[tactic(auto, unfolding(crate::specs::Record::mounted_drive))]
 pub fn mounted(partitions: u8) -> Drive
     ensures { result ≡ mounted_drive partitions }
 {
-    let sense = sense::empty();
     Drive {
         loaded: 1,
-        partitions: partitions,
+        partitions,
         current: 0,
         attention: MEDIUM_CHANGED,
         position: 0,
         block_length: MOUNTED_BLOCK_LENGTH,
-        sense: sense,
+        sense: sense::empty(),
     }
 }
 
 // LOAD: the beginning of partition 0.
+#[tactic(auto, unfolding(crate::specs::Record::loaded_anew))]
 pub fn load_anew(d: Drive) -> Drive
     ensures { result ≡ loaded_anew d }
 {
-    let mut begun = d;
-    begun.current = 0;
-    begun.position = 0;
-    begun
+    Drive {
+        current: 0,
+        position: 0,
+        ..d
+    }
 }
 
 // Unload: nothing loaded; the block length stays.
+#[tactic(auto, unfolding(crate::specs::Record::unloaded, crate::specs::Record::loaded_anew))]
 pub fn unload(d: Drive) -> Drive
     ensures { result ≡ unloaded d }
 {
-    let mut e = d;
-    e.loaded = 0;
-    e.partitions = 0;
-    e.current = 0;
-    e.position = 0;
-    e
+    Drive {
+        loaded: 0,
+        partitions: 0,
+        ..load_anew(d)
+    }
 }
 
 // The kept sense replaced whole.
+#[tactic(auto, unfolding(crate::specs::Record::with_sense))]
 pub fn with_sense(d: Drive, sense: [u8; SENSE_LENGTH]) -> Drive
     ensures { result ≡ with_sense d sense }
 {
-    let mut e = d;
-    e.sense = sense;
-    e
+    Drive { sense, ..d }
 }

@@ -1,11 +1,9 @@
 -- The eighteen sense bytes (01, "What each command does": "Sense: ..").
 -- Assumes nothing: these are definitions.
-use Rattle.std.specs.Prelude.{ℕ, ◌+◌, ◌/◌, ◌%◌, ◌≡◌, Bool, false, cond, ◌&&◌, ◌||◌, List, [], ◌∷◌, ◌++◌, eqb, ℤ, pos, get_or}
-use Rattle.std.proofs.Math.IntN.{sub_ℕ}
+use Rattle.std.specs.Prelude.{ℕ, ◌+◌, ◌/◌, ◌%◌, ◌≡◌, Bool, false, cond, ◌&&◌, ◌||◌, List, [], ◌∷◌, ◌++◌, Option, Some, None, eqb, ℤ, pos, get_or}
 use Rattle.words.specs.Words.{be, bytes, zeros}
 use Rattle.words.specs.Signed.{wrapped, fits32}
 use Rattle.sense.specs.declared.Sense.{Sense}
-use Rattle.sense.specs.declared.Residue.{Residue}
 
 abbrev pub sense_length : ℕ
 sense_length = 18
@@ -145,9 +143,9 @@ told counts filemark eom ili key asc ascq residue = record {
   ascq = ascq;
 }
 
--- what the code has of a residue z: whether it fits, and two numbers of 32 bits whose difference encodes it
-abbrev pub Shows : Residue → ℤ → Type 0
-Shows r z = (r.fits ≡ fits32 z) × (wrapped (sub_ℕ r.request r.actual) ≡ wrapped z)
+-- what the code has of a residue z: its encoding in 32 bits, where it fits
+abbrev pub Shows : Option ℕ → ℤ → Type 0
+Shows r z = r ≡ cond (fits32 z) (Some (wrapped z)) None
 
 -- key, ASC and ASCQ alone
 abbrev pub plainly : ℕ → ℕ → ℕ → Sense

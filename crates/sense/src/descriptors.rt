@@ -19,12 +19,13 @@ const INFORMATION: u8 = 0x00;
 const STREAM: u8 = 0x04;
 
 // With VALID: the information, then the stream.
+#[tactic(auto, using(crate::proofs::Packing::both_written, crate::proofs::Packing::low4))]
 pub fn with_information(s: Sense) -> [u8; BOTH_LENGTH]
     requires { s.valid ≡ true }
     ensures { result ≡ descriptor_bytes s }
 {
-    let value = words::extended(s.information);
-    let flags = crate::flag_bits(s.filemark, s.eom, s.ili);
+    let [v0, v1, v2, v3, v4, v5, v6, v7] = words::extended(s.information).to_be_bytes();
+    let flags = s.flag_bits();
     [
         DESCRIPTORS,
         s.key & 0x0f,
@@ -38,14 +39,14 @@ pub fn with_information(s: Sense) -> [u8; BOTH_LENGTH]
         0x0a,
         0x80,
         0,
-        (value >> 56 & 255) as u8,
-        (value >> 48 & 255) as u8,
-        (value >> 40 & 255) as u8,
-        (value >> 32 & 255) as u8,
-        (value >> 24 & 255) as u8,
-        (value >> 16 & 255) as u8,
-        (value >> 8 & 255) as u8,
-        (value & 255) as u8,
+        v0,
+        v1,
+        v2,
+        v3,
+        v4,
+        v5,
+        v6,
+        v7,
         STREAM,
         0x02,
         0,
@@ -54,11 +55,12 @@ pub fn with_information(s: Sense) -> [u8; BOTH_LENGTH]
 }
 
 // Without: the stream alone.
+#[tactic(auto, using(crate::proofs::Packing::stream_written, crate::proofs::Packing::low4))]
 pub fn stream_alone(s: Sense) -> [u8; STREAM_LENGTH]
     requires { s.valid ≡ false }
     ensures { result ≡ descriptor_bytes s }
 {
-    let flags = crate::flag_bits(s.filemark, s.eom, s.ili);
+    let flags = s.flag_bits();
     [
         DESCRIPTORS,
         s.key & 0x0f,

@@ -1,4 +1,3 @@
 pub mod Looked
 pub mod Steps
-pub mod Inserted
-pub mod Called
+pub mod Refused

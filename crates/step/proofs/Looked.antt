@@ -1,16 +1,18 @@
--- The partition that a command looks at is lent, sound, and long enough for the position; and its protection is what the tests were given.
+-- The partition that the drive stands in has a trailer; the one that a command looks at is sound, and long enough for the position; and its
+-- protection is what the tests were given.
 -- Assumes nothing.
 use Prim.Native.Nat.{ℕ, ◌≤◌, ◌<◌}
 use native.Mathlib.Omega.{arith}
-use mathlib.Core.Path.{◌≡◌, refl, ◌∙◌}
-use mathlib.Core.Bool.{Bool, true, false, cond, ◌&&◌}
+use mathlib.Core.Path.{◌≡◌, refl}
+use mathlib.Core.Logic.{◌⊎◌, inl, inr}
+use mathlib.Core.Bool.{Bool, true, false, cond, not, ◌&&◌}
 use mathlib.Core.List.{List}
-use borrow.Author.Tests.{ne_eqb, le-leb, lt-ltb, le-ltb}
-use lib.Dec.{leb, ltb}
+use borrow.Author.Tests.{eq-eqb, eqb-true, eqb-false, le-leb, lt-ltb, le-ltb}
+use lib.Dec.{eqb, leb, ltb}
 use lib.ListN.{length}
 use Rattle.objects.specs.Room.{trailer_length}
 use Rattle.image.specs.Image.{count, sound, protected}
-use Rattle.image.proofs.Facts.{Sound, sound_of}
+use Rattle.image.proofs.Facts.{Sound, sound_of, sound_parts}
 use Rattle.record.specs.declared.drive.Drive.{Drive}
 use Rattle.record.specs.Record.{well_formed}
 use Rattle.codes.specs.declared.operation.Operation.{Operation}
@@ -58,25 +60,33 @@ guarded_alike o d x h = rw (not_locate o h) (go (ltb d.current d.partitions))
     go true = refl
     go false = refl
 
-module _ (d : Drive) (p0 p1 : List ℕ) (w : well_formed d ≡ true) where
-  pub guards_none : d.loaded ≡ 0 → false ≡ guarded_now d p0 p1
-  unfolding guarded_now
-  guards_none h = rw (le-ltb d.current d.partitions (omega (arith, (empty_handed_lem d w h).0))) refl
+-- ---- the partition that the drive stands in
 
-  module _ (z : d.loaded ≡ 0 → ⊥) (b : Bool) where
-    here : ltb d.current d.partitions ≡ true
-    here = lt-ltb d.current d.partitions (loaded d w z).current_in
+-- what is loaded is one cartridge
+pub one_loaded : (d : Drive) → well_formed d ≡ true → (d.loaded ≡ 0 → ⊥) → eqb d.loaded 1 ≡ true
+one_loaded d w z = eq-eqb d.loaded 1 (loaded d w z).is
 
-    pub guards_second : d.current ≡ 1 → b ≡ protected p1 → b ≡ guarded_now d p0 p1
-    unfolding guarded_now
-    guards_second k e = e ∙ rw (here, k) refl
+-- the current partition is there exactly while something is loaded
+pub current_there : (d : Drive) → well_formed d ≡ true → ltb d.current d.partitions ≡ not (eqb d.loaded 0)
+current_there d w = go (eqb d.loaded 0) refl
+  where
+    go : (t : Bool) → eqb d.loaded 0 ≡ t → ltb d.current d.partitions ≡ not t
+    go true e = le-ltb d.current d.partitions (omega (arith, (empty_handed_lem d w (eqb-true d.loaded 0 e)).0))
+    go false e = lt-ltb d.current d.partitions (loaded d w (eqb-false d.loaded 0 e)).current_in
 
-    pub guards_first : (d.current ≡ 1 → ⊥) → b ≡ protected p0 → b ≡ guarded_now d p0 p1
-    unfolding guarded_now
-    guards_first k e = e ∙ rw (here, ne_eqb d.current 1 k) refl
+module _ (d : Drive) (p0 p1 : List ℕ) (w : well_formed d ≡ true) (z : d.loaded ≡ 0 → ⊥) where
+  -- a sound partition has a trailer
+  trails : Sound (partition d.current p0 p1) → trailer_length ≤ length (partition d.current p0 p1)
+  trails s = omega (arith, s.least)
 
--- a sound partition has a trailer
-pub trailed : (d : Drive) (p0 p1 : List ℕ) → well_formed d ≡ true → inserted d p0 p1 ≡ true → (d.loaded ≡ 0 → ⊥) → (d.current ≡ 1 → trailer_length ≤ length p1) × ((d.current ≡ 1 → ⊥) → trailer_length ≤ length p0)
-trailed d p0 p1 w i z =
-    let s = (inside d p0 p1 (well_of d p0 p1 w i).cart z).right in
-    ((λ k. let y : Sound p1 = rw k at s in omega (arith, y.least)), (λ k. let y : Sound p0 = rw (ne_eqb d.current 1 k) at s in omega (arith, y.least)))
+  pub trailed : inserted d p0 p1 ≡ true → trailer_length ≤ length (partition d.current p0 p1)
+  trailed i = trails (inside d p0 p1 (well_of d p0 p1 w i).cart z).right
+
+  -- of two, the second is sound too
+  pub trailed_by : sound p0 ≡ true → (d.partitions ≡ 1) ⊎ (sound p1 ≡ true) → trailer_length ≤ length (partition d.current p0 p1)
+  trailed_by a b = trails (go (eqb d.current 1) refl b)
+    where
+      go : (t : Bool) → eqb d.current 1 ≡ t → (d.partitions ≡ 1) ⊎ (sound p1 ≡ true) → Sound (cond t p1 p0)
+      go true e (inl q) = absurd (omega (arith, eqb-true d.current 1 e, (loaded d w z).current_in))
+      go true e (inr s) = sound_parts p1 s
+      go false e b = sound_parts p0 a

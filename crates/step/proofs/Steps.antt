@@ -1,56 +1,37 @@
 -- The step: what its act asks for, and how each end of it is the definition's.
 -- Assumes nothing.
-use Prim.Native.Nat.{ℕ, ◌≤◌}
-use native.Mathlib.Omega.{arith}
+use Prim.Native.Nat.{ℕ}
 use mathlib.Core.Path.{◌≡◌, refl, sym, ap, ◌∙◌}
 use mathlib.Core.Bool.{Bool, true, false, cond, ◌&&◌}
-use mathlib.Core.Option.{some}
+use mathlib.Core.Option.{Option, none, some}
 use mathlib.Core.List.{List}
 use borrow.Author.Tests.{ne_eqb}
 use lib.Dec.{eqb}
 use lib.ListN.{length}
+use Rattle.std.specs.Prelude.{Ok}
 use Rattle.answers.specs.declared.Answer.{Answer}
-use Rattle.answers.specs.Answers.{refused, first}
-use Rattle.sense.specs.Sense.{sense_bytes, plainly, attention_sense}
+use Rattle.answers.specs.Answers.{first}
 use Rattle.record.specs.declared.drive.Drive.{Drive}
-use Rattle.record.specs.Record.{well_formed, with_sense}
+use Rattle.record.specs.Record.{well_formed}
 use Rattle.codes.specs.declared.operation.Operation.{Operation}
 use Rattle.codes.specs.Codes.{code_of, too_short, operation_of}
 use Rattle.deeds.specs.declared.deeds.Left.{Left}
-use Rattle.commands.specs.Stop as S
-use Rattle.commands.specs.Kinds.{needs_cartridge, locates, writes}
+use Rattle.commands.specs.Stop.{Stop}
+use Rattle.commands.specs.Kinds.{needs_cartridge, writes}
 use Rattle.commands.specs.Tests.{tests}
-use Rattle.commands.specs.Act.{Seen, unattended, target_of}
-use Rattle.commands.specs.Step.{check_answer, stopped, acted}
+use Rattle.commands.specs.Act.{Seen}
+use Rattle.commands.specs.Step.{acted}
 use Rattle.commands.specs.Call.{lent, partition, looks_at, seen_of, nothing, seen, inserted, outcome, laid_out, applied, step_of}
 use Rattle.deeds.specs.Left.{protected_only}
-use Rattle.order.specs.declared.Stop.{Stop}
-use Rattle.order.specs.declared.Stop.TheVariants.{Refuse, Attend, Fault, Pass}
-use Rattle.order.specs.Stops.{stop_of}
-use Rattle.commands.proofs.Long.{locate_long_lem}
 use Rattle.commands.proofs.Classes.{unchanged}
-use Rattle.commands.proofs.Ends.{step_stops, step_acts}
+use Rattle.commands.proofs.Ends.{Tests, stopped_at, step_stops, step_acts}
 use Rattle.step.specs.declared.stepping.Served.{Served}
-use Rattle.step.specs.Served.{outcome_of, answer_of, guarded_now}
+use Rattle.step.specs.Served.{answer_in, outcome_of, served_of, guarded_now}
 use Rattle.acting.specs.Ready.{Free, Ready, ReadyApart}
 use Rattle.acting.proofs.Asked.{pass}
 use Rattle.acting.proofs.Acts.{Acts, Apart, no_writing}
 use Rattle.commands.proofs.Faultless.{small_block}
 use Rattle.step.proofs.Looked.{sound_looked, place_looked, seen_loaded, seen_unloaded, guarded_alike}
-
--- ---- the partition looked at
-
-module _ (o : Operation) (d : Drive) (cmd : List ℕ) (b : Bool) (eb : b ≡ locates o) where
-  pub locate_long_enough : too_short cmd ≡ false → o ≡ operation_of (code_of cmd) → b ≡ true → 9 ≤ length cmd
-  locate_long_enough l eo h = let z = locate_long_lem cmd l (ap locates (sym eo) ∙ sym eb ∙ h) in omega arith
-
-  pub looks_target : b ≡ true → (k : ℕ) → k ≡ target_of o d cmd → k ≡ looks_at o d cmd
-  unfolding looks_at
-  looks_target h k e = rw (← eb, h) e
-
-  pub looks_current : b ≡ false → d.current ≡ looks_at o d cmd
-  unfolding looks_at
-  looks_current h = rw (← eb, h) refl
 
 -- ---- the act
 
@@ -58,7 +39,7 @@ none_needed : (t : Bool) (n : ℕ) → t && eqb n 0 ≡ false → n ≡ 0 → t 
 none_needed true n e h = rw h at e
 none_needed false n e h = refl
 
-pub outcomes : {a a' : Answer} {d d' : Drive} {p p' q q' r r' : List ℕ} (cmd sent : List ℕ) → a ≡ a' → d ≡ d' → p ≡ p' → q ≡ q' → r ≡ r' → outcome a d (lent cmd p q sent r) ≡ outcome a' d' (lent cmd p' q' sent r')
+outcomes : {a a' : Answer} {d d' : Drive} {p p' q q' r r' : List ℕ} (cmd sent : List ℕ) → a ≡ a' → d ≡ d' → p ≡ p' → q ≡ q' → r ≡ r' → outcome a d (lent cmd p q sent r) ≡ outcome a' d' (lent cmd p' q' sent r')
 outcomes {a} {a'} {d} {d'} {p} {p'} {q} {q'} {r} {r'} cmd sent ea ed ep eq er = λ i. outcome (ea i) (ed i) (lent cmd (ep i) (eq i) sent (er i))
 
 either_way : (t : Bool) (p q : List ℕ) → p ≡ q → p ≡ cond t p q
@@ -80,12 +61,15 @@ module _ (o : Operation) (d : Drive) (cmd p0 p1 sent b : List ℕ) (w : well_for
   pub asks_unloaded : d.loaded ≡ 0 → ReadyApart o d cmd sent (length b) false
   asks_unloaded h = record { free = seeing (protected_only false) (seen_unloaded o d (lent cmd p0 p1 sent b) w h); apart = needs_none h }
 
-  module _ (x : Left) (r : Served) (ed : r.drive ≡ x.drive) (ea : r.answer ≡ answer_of x) (b' : List ℕ) where
-    pub acted_apart : d.loaded ≡ 0 → Apart o d cmd sent false b b' x → outcome_of r (lent cmd p0 p1 sent b') ≡ applied (acted o d cmd sent (seen o d (lent cmd p0 p1 sent b))) (looks_at o d cmd) (lent cmd p0 p1 sent b)
+  module _ (x : Left) (r : Served) (er : r ≡ served_of x) (b' : List ℕ) where
+    left : {y : Left} → x ≡ y → r ≡ served_of y
+    left e = er ∙ ap served_of e
+
+    pub acted_apart : d.loaded ≡ 0 → Apart o d cmd sent false b b' x → outcome_of d (Ok r) (lent cmd p0 p1 sent b') ≡ applied (acted o d cmd sent (seen o d (lent cmd p0 p1 sent b))) (looks_at o d cmd) (lent cmd p0 p1 sent b)
     unfolding applied acted
     acted_apart h y =
         rw (seen_unloaded o d (lent cmd p0 p1 sent b) w h)
-        (outcomes cmd sent (ea ∙ ap answer_of y.0) (ed ∙ ap (λ (z : Left). z.drive) y.0)
+        (outcomes cmd sent (ap answer_in (left y.0)) (ap (λ (z : Served). z.drive) (left y.0))
         (either_way (eqb (looks_at o d cmd) 1) p0 (laid_out (acted o d cmd sent nothing) p0) (sym (unchanged o (no_writing o (needs_none h)) d cmd sent nothing p0)))
         (other_way (eqb (looks_at o d cmd) 1) p1 (laid_out (acted o d cmd sent nothing) p1) (sym (unchanged o (no_writing o (needs_none h)) d cmd sent nothing p1)))
         y.1)
@@ -94,17 +78,17 @@ module _ (o : Operation) (d : Drive) (cmd p0 p1 sent b : List ℕ) (w : well_for
       seen_at : (s : List ℕ) → partition (looks_at o d cmd) p0 p1 ≡ s → seen o d (lent cmd p0 p1 sent b) ≡ seen_of s
       seen_at s es = seen_loaded d p0 p1 w i z o cmd (pass f).there sent b ∙ ap seen_of es
 
-      pub acted_second : k ≡ 1 → (t : List ℕ) → Acts o d cmd sent (seen_of p1) p1 t b b' x → outcome_of r (lent cmd p0 t sent b') ≡ applied (acted o d cmd sent (seen o d (lent cmd p0 p1 sent b))) (looks_at o d cmd) (lent cmd p0 p1 sent b)
+      pub acted_second : k ≡ 1 → (t : List ℕ) → Acts o d cmd sent (seen_of p1) p1 t b b' x → outcome_of d (Ok r) (lent cmd p0 t sent b') ≡ applied (acted o d cmd sent (seen o d (lent cmd p0 p1 sent b))) (looks_at o d cmd) (lent cmd p0 p1 sent b)
       unfolding applied acted
       acted_second h t y =
           rw (seen_at p1 (rw (← ek, h) refl), ← ek, h)
-          (outcomes cmd sent (ea ∙ ap answer_of y.0) (ed ∙ ap (λ (z : Left). z.drive) y.0) refl y.1 y.2)
+          (outcomes cmd sent (ap answer_in (left y.0)) (ap (λ (z : Served). z.drive) (left y.0)) refl y.1 y.2)
 
-      pub acted_first : (k ≡ 1 → ⊥) → (t : List ℕ) → Acts o d cmd sent (seen_of p0) p0 t b b' x → outcome_of r (lent cmd t p1 sent b') ≡ applied (acted o d cmd sent (seen o d (lent cmd p0 p1 sent b))) (looks_at o d cmd) (lent cmd p0 p1 sent b)
+      pub acted_first : (k ≡ 1 → ⊥) → (t : List ℕ) → Acts o d cmd sent (seen_of p0) p0 t b b' x → outcome_of d (Ok r) (lent cmd t p1 sent b') ≡ applied (acted o d cmd sent (seen o d (lent cmd p0 p1 sent b))) (looks_at o d cmd) (lent cmd p0 p1 sent b)
       unfolding applied acted
       acted_first h t y =
           rw (seen_at p0 (rw (← ek, ne_eqb k 1 h) refl), ← ek, ne_eqb k 1 h)
-          (outcomes cmd sent (ea ∙ ap answer_of y.0) (ed ∙ ap (λ (z : Left). z.drive) y.0) y.1 refl y.2)
+          (outcomes cmd sent (ap answer_in (left y.0)) (ap (λ (z : Served). z.drive) (left y.0)) y.1 refl y.2)
 
   module _ (z : d.loaded ≡ 0 → ⊥) (k : ℕ) (ek : k ≡ looks_at o d cmd) where
     asks_at : (s : List ℕ) → partition (looks_at o d cmd) p0 p1 ≡ s → Ready o d cmd sent (length b) s
@@ -125,34 +109,20 @@ module _ (o : Operation) (d : Drive) (cmd p0 p1 sent b : List ℕ) (w : well_for
 
 -- ---- the end of a step
 
-module _ (o : Operation) (d : Drive) (cmd p0 p1 sent b : List ℕ) (eo : o ≡ operation_of (code_of cmd)) (g : Bool) (eg : g ≡ guarded_now d p0 p1) (x : Stop)
-    (ex : (v : Seen) → (writes o ≡ true → v.guarded ≡ g) → stop_of x ≡ first (tests o d cmd v sent (length b))) where
+module _ (o : Operation) (d : Drive) (cmd p0 p1 sent b : List ℕ) (eo : o ≡ operation_of (code_of cmd)) (g : Bool) (eg : g ≡ guarded_now d p0 p1) (s : Option Stop)
+    (es : (v : Seen) → (writes o ≡ true → v.guarded ≡ g) → s ≡ first (tests o d cmd v sent (length b))) where
   -- the tests found what the definition's find
-  pub stop_is : first (tests o d cmd (seen o d (lent cmd p0 p1 sent b)) sent (length b)) ≡ stop_of x
-  stop_is = sym (ex (seen o d (lent cmd p0 p1 sent b)) (λ t. guarded_alike o d (lent cmd p0 p1 sent b) t ∙ sym eg))
+  found : first (tests o d cmd (seen o d (lent cmd p0 p1 sent b)) sent (length b)) ≡ s
+  found = sym (es (seen o d (lent cmd p0 p1 sent b)) (λ t. guarded_alike o d (lent cmd p0 p1 sent b) t ∙ sym eg))
 
-  named_so : first (tests (operation_of (code_of cmd)) d cmd (seen (operation_of (code_of cmd)) d (lent cmd p0 p1 sent b)) sent (length b)) ≡ stop_of x
-  named_so = rw (← eo) stop_is
+  named : first (Tests d (lent cmd p0 p1 sent b)) ≡ s
+  named = rw (← eo) found
 
-  module _ (r : Served) where
-    halts : (s : S.Stop) → stop_of x ≡ some s → r.answer ≡ (stopped s d).answer → r.drive ≡ (stopped s d).drive → outcome_of r (lent cmd p0 p1 sent b) ≡ step_of d (lent cmd p0 p1 sent b)
-    halts s e ea ed = outcomes cmd sent ea ed refl refl refl ∙ sym (step_stops d (lent cmd p0 p1 sent b) s (named_so ∙ e))
+  pub stops : (t : Stop) → s ≡ some t → stopped_at t d (lent cmd p0 p1 sent b) ≡ step_of d (lent cmd p0 p1 sent b)
+  stops t e = sym (step_stops d (lent cmd p0 p1 sent b) t (named ∙ e))
 
-    pub refuses_so : (n : ℕ) → x ≡ Refuse n → r.drive ≡ d → r.answer ≡ refused n → outcome_of r (lent cmd p0 p1 sent b) ≡ step_of d (lent cmd p0 p1 sent b)
-    unfolding stopped
-    refuses_so n e ed ea = halts (S.refuse n) (ap stop_of e) ea ed
+  pub acts : s ≡ none → applied (acted o d cmd sent (seen o d (lent cmd p0 p1 sent b))) (looks_at o d cmd) (lent cmd p0 p1 sent b) ≡ step_of d (lent cmd p0 p1 sent b)
+  acts e = rw eo (sym (step_acts d (lent cmd p0 p1 sent b) (named ∙ e)))
 
-    pub attends_so : x ≡ Attend → (f : Drive) → f ≡ unattended d → (t : List ℕ) → t ≡ attention_sense d.attention → r.drive ≡ with_sense f t → r.answer ≡ check_answer → outcome_of r (lent cmd p0 p1 sent b) ≡ step_of d (lent cmd p0 p1 sent b)
-    unfolding stopped
-    attends_so e f ef t et ed ea = halts S.attend (ap stop_of e) ea (ed ∙ rw (ef, et) refl)
-
-    pub faults_so : (key asc ascq : ℕ) → x ≡ Fault key asc ascq → (t : List ℕ) → t ≡ sense_bytes (plainly key asc ascq) → r.drive ≡ with_sense d t → r.answer ≡ check_answer → outcome_of r (lent cmd p0 p1 sent b) ≡ step_of d (lent cmd p0 p1 sent b)
-    unfolding stopped
-    faults_so key asc ascq e t et ed ea = halts (S.fault key asc ascq) (ap stop_of e) ea (ed ∙ rw et refl)
-
-    pub acts_so : x ≡ Pass → (p0' p1' b' : List ℕ) → outcome_of r (lent cmd p0' p1' sent b') ≡ applied (acted o d cmd sent (seen o d (lent cmd p0 p1 sent b))) (looks_at o d cmd) (lent cmd p0 p1 sent b)
-        → outcome_of r (lent cmd p0' p1' sent b') ≡ step_of d (lent cmd p0 p1 sent b)
-    acts_so e p0' p1' b' q = q ∙ rw eo refl ∙ sym (step_acts d (lent cmd p0 p1 sent b) (named_so ∙ ap stop_of e))
-
-  pub passes_free : too_short cmd ≡ false → x ≡ Pass → Free o d cmd sent (length b) (seen o d (lent cmd p0 p1 sent b))
-  passes_free l e = record { long = l; coded = eo; unstopped = stop_is ∙ ap stop_of e }
+  pub free : too_short cmd ≡ false → s ≡ none → Free o d cmd sent (length b) (seen o d (lent cmd p0 p1 sent b))
+  free l e = record { long = l; coded = eo; unstopped = found ∙ e }

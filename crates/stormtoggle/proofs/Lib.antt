@@ -1,2 +1,1 @@
 pub mod Commanded
-pub mod Numbered

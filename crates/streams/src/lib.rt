@@ -1,15 +1,40 @@
 // Reading all of an input and writing all of an output, in as many calls as that takes.
 #![tactic(auto)]
 
-ghost use Rattle.std.specs.Prelude.{ℕ, ◌<◌, length, take, IfOk, OnOk, OnErr};
+ghost use Rattle.std.specs.Prelude.{◌≡◌, ℕ, ◌+◌, ◌<◌, length, take, IfOk, OnOk, OnErr};
 ghost use Rattle.std.specs.Io.{ReadsAtMost};
 ghost use Rattle.std.specs.Io.KnownBytes.{Appends, Consumes, IsAtEnd};
+ghost use Rattle.streams.specs.declared.TheConstants.{PATIENCE};
 
 use std::io;
 use std::io::{ErrorKind, Read, Write};
 
 // How many calls may fail before a stream is given up, one that a signal interrupts among them.
 const PATIENCE: usize = 1000;
+
+// The calls on a stream that failed so far.
+#[derive(Drop)]
+struct Failures {
+    count: usize,
+    ghost few: { count < PATIENCE },
+}
+
+impl Failures {
+    fn none() -> Failures {
+        Failures { count: 0 }
+    }
+
+    // Counts one more, and answers its error if that is one too many.
+    fn add(&mut self, error: io::Error) -> io::Result<()>
+        ensures { OnOk result (self.new.count ≡ self.old.count + 1) }
+    {
+        if self.count + 1 == PATIENCE {
+            return Err(error);
+        }
+        self.count += 1;
+        Ok(())
+    }
+}
 
 // Reads until buf is full or the input ends, and answers how many bytes it put at the start of buf. A call that fails is made
 // again. Once too many have failed it answers the last one's error, and what was read until then stands at the start of buf.
@@ -21,17 +46,12 @@ pub fn read_all<R: Read>(reader: &mut R, buf: &mut [u8]) -> io::Result<usize>
         × Consumes (R.remaining reader.old) (R.remaining reader.new) (take n buf.new)) }
 {
     let mut done = 0;
-    let mut failed = 0;
+    let mut failures = Failures::none();
     while done < buf.len() {
         match reader.read(&mut buf[done..]) {
             Ok(0) => return Ok(done),
             Ok(n) => done += n,
-            Err(e) => {
-                failed += 1;
-                if failed == PATIENCE {
-                    return Err(e);
-                }
-            }
+            Err(e) => failures.add(e)?,
         }
     }
     Ok(done)
@@ -44,23 +64,13 @@ pub fn write_all<W: Write>(writer: &mut W, buf: &[u8]) -> io::Result<()>
     ensures err { OnErr result ((n : ℕ) × (n < length buf.now)
         × Appends (W.contents writer.old) (W.contents writer.new) (take n buf.now)) }
 {
-    let mut done = 0;
-    let mut failed = 0;
-    while done < buf.len() {
-        match writer.write(&buf[done..]) {
-            Ok(0) => {
-                failed += 1;
-                if failed == PATIENCE {
-                    return Err(ErrorKind::WriteZero.into());
-                }
-            }
-            Ok(n) => done += n,
-            Err(e) => {
-                failed += 1;
-                if failed == PATIENCE {
-                    return Err(e);
-                }
-            }
+    let mut rest = buf;
+    let mut failures = Failures::none();
+    while !rest.is_empty() {
+        match writer.write(rest) {
+            Ok(0) => failures.add(ErrorKind::WriteZero.into())?,
+            Ok(n) => rest = &rest[n..],
+            Err(e) => failures.add(e)?,
         }
     }
     Ok(())

@@ -1,3 +1,3 @@
 pub mod Whole
 pub mod Going
-pub mod Sent
+pub mod Yielded

@@ -6,19 +6,18 @@ use native.Mathlib.Nat.{zero-add, add-zero, zero-mul}
 use native.Mathlib.Numerals.{add-one}
 use native.Mathlib.Omega.{arith}
 use mathlib.Core.Bool.{true, false}
-use mathlib.Core.Path.{◌≡◌, refl, sym, ap, ◌∙◌}
+use mathlib.Core.Path.{◌≡◌, refl, sym, ap, ◌∙◌, subst}
 use mathlib.Core.List.{List, [], ◌∷◌, ◌++◌, append_assoc, append-nil}
-use lib.ListN.{length, take, drop, length-append, drop_of_length-le}
-use lib.Seq.{length-slice}
+use lib.ListN.{length, drop, length-append, drop_of_length-le}
+use lib.Seq.{slice}
 use borrow.Author.Tests.{eq-eqb, ne_eqb}
 use Rattle.words.specs.Words.{over}
-use Rattle.words.proofs.Laws.{length_over, over_over, over_nil, part_is}
+use Rattle.words.proofs.Laws.{length_over, over_over, over_nil}
 use Rattle.objects.specs.Object.{Object, filemark, block}
-use Rattle.image.specs.Image.{count, entry, top_bit, end_at, object_at, objects, sound}
+use Rattle.image.specs.Image.{count, entry, top_bit, end_at, object_at, objects}
 use Rattle.image.proofs.Objects.{length_objects, ahead_step}
 use Rattle.objects.specs.Transfer.{Ended, whole, odd_length, at_filemark, at_end, Run, halted, whole_before, run_of}
 use Rattle.objects.proofs.Fitting.{next_place, place_in}
-use Rattle.image.proofs.Lies.{lies}
 
 -- ---- object i of a sound image
 
@@ -26,16 +25,9 @@ filemark_there : (s : List ℕ) (i : ℕ) → top_bit (entry s i) ≡ true → o
 unfolding object_at
 filemark_there s i t = rw t refl
 
--- the bytes of block i, as the code takes them
-abbrev pub cut_out : List ℕ → ℕ → ℕ → List ℕ
-cut_out s from to = take (to - from) (drop from s)
-
-block_there : (s : List ℕ) (i : ℕ) → top_bit (entry s i) ≡ false → end_at s i ≤ end_at s (i + 1) → object_at s i ≡ block (cut_out s (end_at s i) (end_at s (i + 1)))
+block_there : (s : List ℕ) (i : ℕ) → top_bit (entry s i) ≡ false → object_at s i ≡ block (slice (end_at s i) (end_at s (i + 1)) s)
 unfolding object_at
-block_there s i t g = rw (t, part_is (end_at s i) (end_at s (i + 1)) s g, add-one i) refl
-
-pub taken_length : (s : List ℕ) (from to : ℕ) → from ≤ to → to ≤ length s → length (cut_out s from to) ≡ to - from
-taken_length s from to g h = ap length (part_is from to s g) ∙ length-slice from to s h
+block_there s i t = rw (t, add-one i) refl
 
 -- ---- one step of the definition
 
@@ -107,12 +99,13 @@ read_is x k m w got r₀ r c e h q = rw e (record {
 })
 
 module _ (s : List ℕ) (p n b : ℕ) (r₀ : List ℕ) (k : ℕ) (r : List ℕ) (g : ReadOn s p n b r₀ k r) where
-  pub reads_whole : n ≤ k → Read (run_of b n (drop p (objects s))) k k whole r₀ r
+  pub reads_whole : k ≡ n → Read (run_of b n (drop p (objects s))) n n whole r₀ r
   reads_whole h =
       let z : n - k ≡ 0 = omega arith in
-      read_is _ k 0 whole g.got r₀ r k
+      subst (λ (m : ℕ). Read (run_of b n (drop p (objects s))) m m whole r₀ r) h
+      (read_is _ k 0 whole g.got r₀ r k
       (g.same ∙ ap (λ (m : ℕ). lead k g.got (run_of b m (drop (p + k) (objects s)))) z ∙ ap (lead k g.got) (run_whole b (drop (p + k) (objects s))))
-      g.held (omega arith)
+      g.held (omega arith))
 
   module _ (h : k < n) where
     -- the run from here on, by what lies ahead
@@ -135,36 +128,33 @@ module _ (s : List ℕ) (p n b : ℕ) (r₀ : List ℕ) (k : ℕ) (r : List ℕ)
           read_is _ k 1 at_filemark g.got r₀ r (k + 1)
           (ahead _ _ (first filemark (filemark_there s (p + k) t)) (run_filemark b (n - (k + 1)) (drop (suc (p + k)) (objects s)))) g.held refl
 
-      module _ (a : sound s ≡ true) (t : top_bit (entry s (p + k)) ≡ false) (from to : ℕ) (hf : from ≡ end_at s (p + k)) (ht : to ≡ end_at s (p + k + 1)) where
-        there_is : object_at s (p + k) ≡ block (cut_out s from to)
-        there_is = rw (hf, ht) (block_there s (p + k) t (lies s a (p + k) l).grows)
+      module _ (t : top_bit (entry s (p + k)) ≡ false) (bs : List ℕ) (e : bs ≡ slice (end_at s (p + k)) (end_at s (p + k + 1)) s) where
+        there_is : object_at s (p + k) ≡ block bs
+        there_is = block_there s (p + k) t ∙ ap block (sym e)
 
-        size_is : length (cut_out s from to) ≡ to - from
-        size_is = let i = lies s a (p + k) l in taken_length s from to (omega arith) (omega arith)
-
-        pub reads_odd : (to - from ≡ b → ⊥) → Read (run_of b n (drop p (objects s))) k (k + 1) odd_length r₀ r
+        pub reads_odd : (length bs ≡ b → ⊥) → Read (run_of b n (drop p (objects s))) k (k + 1) odd_length r₀ r
         reads_odd q =
             read_is _ k 1 odd_length g.got r₀ r (k + 1)
-            (ahead _ _ (first (block (cut_out s from to)) there_is) (run_odd b (n - (k + 1)) (cut_out s from to) (drop (suc (p + k)) (objects s)) (λ e. q (sym size_is ∙ e)))) g.held refl
+            (ahead _ _ (first (block bs) there_is) (run_odd b (n - (k + 1)) bs (drop (suc (p + k)) (objects s)) q)) g.held refl
 
-        module _ (q : to - from ≡ b) (f : n * b ≤ length r₀) where
-          pub reads_room : k * b + length (cut_out s from to) ≤ length r
-          reads_room = omega (arith, size_is, place_in n k b (length r₀) h f, g.same_length)
+        module _ (q : length bs ≡ b) (f : n * b ≤ length r₀) where
+          room : k * b + length bs ≤ length r
+          room = omega (arith, place_in n k b (length r₀) h f, g.same_length)
 
-          pub reads_turn : ReadOn s p n b r₀ (k + 1) (over r (k * b) (cut_out s from to))
+          pub reads_turn : ReadOn s p n b r₀ (k + 1) (over r (k * b) bs)
           reads_turn =
               let z : p + (k + 1) ≡ suc (p + k) = omega arith in
               record {
-                got = g.got ++ cut_out s from to;
+                got = g.got ++ bs;
                 there = omega arith;
-                many = length-append g.got (cut_out s from to) ∙ omega (arith, size_is, next_place k b, g.many);
-                same_length = length_over r (k * b) (cut_out s from to) reads_room ∙ g.same_length;
+                many = length-append g.got bs ∙ omega (arith, next_place k b, g.many);
+                same_length = length_over r (k * b) bs room ∙ g.same_length;
                 held =
-                    ap (λ (x : List ℕ). over x (k * b) (cut_out s from to)) g.held
-                    ∙ ap (λ (m : ℕ). over (over r₀ 0 g.got) m (cut_out s from to)) (let e : k * b ≡ 0 + length g.got = omega (arith, g.many) in e)
-                    ∙ over_over r₀ 0 g.got (cut_out s from to) (omega (arith, reads_room, g.many, g.same_length));
+                    ap (λ (x : List ℕ). over x (k * b) bs) g.held
+                    ∙ ap (λ (m : ℕ). over (over r₀ 0 g.got) m bs) (let e : k * b ≡ 0 + length g.got = omega (arith, g.many) in e)
+                    ∙ over_over r₀ 0 g.got bs (omega (arith, room, g.many, g.same_length));
                 same =
-                    ahead _ _ (first (block (cut_out s from to)) there_is) (run_more b (n - (k + 1)) (cut_out s from to) (drop (suc (p + k)) (objects s)) (size_is ∙ q))
-                    ∙ lead_one k g.got (cut_out s from to) (run_of b (n - (k + 1)) (drop (suc (p + k)) (objects s)))
-                    ∙ ap (λ (m : ℕ). lead (k + 1) (g.got ++ cut_out s from to) (run_of b (n - (k + 1)) (drop m (objects s)))) (sym z);
+                    ahead _ _ (first (block bs) there_is) (run_more b (n - (k + 1)) bs (drop (suc (p + k)) (objects s)) q)
+                    ∙ lead_one k g.got bs (run_of b (n - (k + 1)) (drop (suc (p + k)) (objects s)))
+                    ∙ ap (λ (m : ℕ). lead (k + 1) (g.got ++ bs) (run_of b (n - (k + 1)) (drop m (objects s)))) (sym z);
               }

@@ -1,13 +1,37 @@
 // The walks over the objects of an image, from a position on and back.
 #![tactic(auto)]
 
-ghost use Rattle.std.specs.Prelude.{◌≡◌, true, ◌≤◌, drop};
-ghost use Rattle.image.specs.Image.{count, sound, objects};
-ghost use Rattle.objects.specs.Movement.{blocks, filemarks, walk, before};
-ghost use Rattle.walks.specs.Walks.{walk_of};
+ghost use Rattle.std.specs.Prelude.{ℕ, List, ◌≡◌, ◌<◌, ◌≤◌};
+ghost use Rattle.image.specs.Image.{count, objects};
+ghost use Rattle.objects.specs.Object.{Object};
+ghost use Rattle.objects.specs.Movement.{walk};
+ghost use Rattle.walks.specs.Walks.{code_of, counts, walk_of};
+ghost use Rattle.walks.specs.Directions.{DirectionLaws, ahead_on, reach_on, number_on, ahead_back, reach_back, number_back};
+ghost use Rattle.walks.specs.Laws.{on_laws, back_laws};
+
+use image::Image;
+
+// What a walk counts. Over blocks a filemark ends it; over filemarks blocks are passed.
+#[derive(Clone, Copy, Debug, PartialEq, Eq)]
+pub enum Counted {
+    Blocks,
+    Filemarks,
+}
+
+impl Counted {
+    // Whether an object is counted, which is a filemark or a block.
+    fn counts(self, is_filemark: bool) -> bool
+        ensures { result ≡ counts (code_of self) is_filemark }
+    {
+        match self {
+            Counted::Blocks => !is_filemark,
+            Counted::Filemarks => is_filemark,
+        }
+    }
+}
 
 // Why a walk ends: all that was asked for is counted, a filemark was crossed that was not, nothing more lies ahead.
-#[derive(Clone, Copy)]
+#[derive(Clone, Copy, Debug, PartialEq, Eq)]
 pub enum Why {
     Done,
     Marked,
@@ -15,131 +39,120 @@ pub enum Why {
 }
 
 // How many objects were crossed, how many of them were counted, and why the walk ended.
-#[derive(Clone, Copy)]
+#[derive(Clone, Copy, Debug, PartialEq, Eq)]
 pub struct Walked {
     pub crossed: u32,
     pub counted: u32,
     pub why: Why,
 }
 
-// Over n blocks on from p.
-pub fn blocks_on(s: &[u8], p: u32, n: u32) -> Walked
-    requires { (sound s.now ≡ true) × (p ≤ count s.now) }
-    ensures { walk_of result ≡ walk blocks n (drop p (objects s.now)) }
+// Which way a walk goes.
+pub trait Direction {
+    // The objects that lie ahead of a position, the nearest first.
+    ghost ahead: { ℕ → List Object → List Object };
+
+    // Of so many objects, how many lie ahead of a position, and the number of the k-th of these.
+    ghost reach: { ℕ → ℕ → ℕ };
+
+    ghost number: { ℕ → ℕ → ℕ → ℕ };
+
+    // What each `impl` must prove.
+    ghost laws: { DirectionLaws ahead reach number };
+
+    fn reach(p: u32, count: u32) -> u32
+        requires { p ≤ count }
+        ensures { result ≡ reach p count };
+
+    fn number(p: u32, count: u32, k: u32) -> u32
+        requires { k < reach p count }
+        ensures { result ≡ number p count k };
+}
+
+// From a position to end of data.
+pub struct On;
+
+impl Direction for On {
+    ghost ahead = { ahead_on };
+
+    ghost reach = { reach_on };
+
+    ghost number = { number_on };
+
+    ghost laws = { on_laws };
+
+    fn reach(p: u32, count: u32) -> u32 {
+        count - p
+    }
+
+    fn number(p: u32, _count: u32, k: u32) -> u32 {
+        p + k
+    }
+}
+
+// From a position to the beginning.
+pub struct Back;
+
+impl Direction for Back {
+    ghost ahead = { ahead_back };
+
+    ghost reach = { reach_back };
+
+    ghost number = { number_back };
+
+    ghost laws = { back_laws };
+
+    fn reach(p: u32, _count: u32) -> u32 {
+        p
+    }
+
+    fn number(p: u32, _count: u32, k: u32) -> u32 {
+        p - (k + 1)
+    }
+}
+
+// The walk of one kind: where it is called `what` is a constant, so no turn of the loop tests it.
+#[inline(always)]
+fn walk_over<W: Direction>(image: &Image, p: u32, what: Counted, n: u32) -> Walked
+    requires { p ≤ count image.now.bytes }
+    ensures { walk_of result ≡ walk (code_of what) n (W.ahead p (objects image.now.bytes)) }
 {
-    let last = image::count_of(s);
-    let mut at = p;
+    let count = image.count();
+    let reach = W::reach(p, count);
     let mut left = n;
-    while 0 < left {
-        if last <= at {
+    for k in 0..reach {
+        if left == 0 {
             return Walked {
-                crossed: at - p,
+                crossed: k,
                 counted: n - left,
-                why: Why::Edge,
+                why: Why::Done,
             };
         }
-        if image::is_filemark(s, at as usize) {
+        let is_filemark = image.is_filemark(W::number(p, count, k));
+        if what.counts(is_filemark) {
+            left -= 1;
+        } else if is_filemark {
             return Walked {
-                crossed: at - p + 1,
+                crossed: k + 1,
                 counted: n - left,
                 why: Why::Marked,
             };
         }
-        at += 1;
-        left -= 1;
     }
     Walked {
-        crossed: at - p,
+        crossed: reach,
         counted: n - left,
-        why: Why::Done,
+        why: if left == 0 { Why::Done } else { Why::Edge },
     }
 }
 
-// Over n blocks back from p.
-pub fn blocks_back(s: &[u8], p: u32, n: u32) -> Walked
-    requires { (sound s.now ≡ true) × (p ≤ count s.now) }
-    ensures { walk_of result ≡ walk blocks n (before p (objects s.now)) }
+// From p over n of what is counted. Out of line, its loops are compiled alike for every caller.
+#[inline(never)]
+pub fn walk<W: Direction>(image: &Image, p: u32, what: Counted, n: u32) -> Walked
+    requires { p ≤ count image.now.bytes }
+    ensures { walk_of result ≡ walk (code_of what) n (W.ahead p (objects image.now.bytes)) }
 {
-    let mut at = p;
-    let mut left = n;
-    while 0 < left {
-        if at == 0 {
-            return Walked {
-                crossed: p - at,
-                counted: n - left,
-                why: Why::Edge,
-            };
-        }
-        if image::is_filemark(s, at as usize - 1) {
-            return Walked {
-                crossed: p - at + 1,
-                counted: n - left,
-                why: Why::Marked,
-            };
-        }
-        at -= 1;
-        left -= 1;
-    }
-    Walked {
-        crossed: p - at,
-        counted: n - left,
-        why: Why::Done,
-    }
-}
-
-// Over n filemarks on from p.
-pub fn filemarks_on(s: &[u8], p: u32, n: u32) -> Walked
-    requires { (sound s.now ≡ true) × (p ≤ count s.now) }
-    ensures { walk_of result ≡ walk filemarks n (drop p (objects s.now)) }
-{
-    let last = image::count_of(s);
-    let mut at = p;
-    let mut left = n;
-    while 0 < left {
-        if last <= at {
-            return Walked {
-                crossed: at - p,
-                counted: n - left,
-                why: Why::Edge,
-            };
-        }
-        let marked = image::is_filemark(s, at as usize);
-        if marked {
-            left -= 1;
-        }
-        at += 1;
-    }
-    Walked {
-        crossed: at - p,
-        counted: n - left,
-        why: Why::Done,
-    }
-}
-
-// Over n filemarks back from p.
-pub fn filemarks_back(s: &[u8], p: u32, n: u32) -> Walked
-    requires { (sound s.now ≡ true) × (p ≤ count s.now) }
-    ensures { walk_of result ≡ walk filemarks n (before p (objects s.now)) }
-{
-    let mut at = p;
-    let mut left = n;
-    while 0 < left {
-        if at == 0 {
-            return Walked {
-                crossed: p - at,
-                counted: n - left,
-                why: Why::Edge,
-            };
-        }
-        let marked = image::is_filemark(s, at as usize - 1);
-        if marked {
-            left -= 1;
-        }
-        at -= 1;
-    }
-    Walked {
-        crossed: p - at,
-        counted: n - left,
-        why: Why::Done,
+    match what {
+        Counted::Blocks => walk_over::<W>(image, p, Counted::Blocks, n),
+        Counted::Filemarks => walk_over::<W>(image, p, Counted::Filemarks, n),
     }
 }

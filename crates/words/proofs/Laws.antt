@@ -1,9 +1,8 @@
 -- Laws of numbers in bytes and of runs laid over others, for every width, place and length: what was laid down is read back,
 -- what lies elsewhere is as it was, lengths stay.
 -- Assumes nothing.
-use Rattle.std.proofs.Common.{◌≡◌, ℕ, zero, suc, ◌+◌, ◌-◌, ◌*◌, ◌/◌, ◌%◌, ◌^◌, ◌<◌, ◌≤◌, min, ◌⊎◌, List, [], ◌∷◌, ◌++◌, length, get_or, take, drop, sym, refl, ap, ◌∙◌, ap₂, inl, inr, append_assoc, append-nil, add-zero, add-suc, mul_assoc, div-lt_iff_lt-mul, suc-add, pow-suc, div-add-mod', zero-add, arith, lit<, length-append, length-drop, take-append-drop, drop_of_length-le, length-take, length-take-le, get_or-drop, take_all, drop-cons, get_or-take, take-suc, take-take, drop-drop, take_at, get_or-append-add, drop_at}
+use Rattle.std.proofs.Common.{◌≡◌, ℕ, zero, suc, ◌+◌, ◌-◌, ◌*◌, ◌/◌, ◌%◌, ◌^◌, ◌<◌, ◌≤◌, ◌⊎◌, List, [], ◌∷◌, ◌++◌, length, get_or, take, drop, sym, refl, ap, ◌∙◌, ap₂, inl, inr, append_assoc, append-nil, add-zero, add-suc, mul_assoc, div-lt_iff_lt-mul, suc-add, pow-suc, div-add-mod', zero-add, arith, lit<, length-append, length-drop, take-append-drop, drop_of_length-le, length-take, length-take-le, get_or-drop, drop-cons, get_or-take, take-suc, take-take, drop-drop, take_at, get_or-append-add, drop_at}
 use native.Mathlib.Nat.{div-div-eq-div-mul, mul-add-div_right, mul-add-mod_self_right, pow-succ'}
-use native.Mathlib.Decide.{dec_le}
 use lib.ListN.{get_or-append}
 use lib.Seq.{slice, slice_empty, length-slice, drop-append-le, take-nil, get_or_at}
 use Rattle.words.specs.Words.{be, bytes, over}
@@ -88,16 +87,7 @@ unfolding be
 be_lt zero s at h = omega arith
 be_lt (suc n) s at h = rw (pow-suc 256 n) (omega (arith, be_lt n s at h, h (at + n)))
 
--- a number of m + n bytes is one of m bytes above one of n
-pub be_split : (m n : ℕ) (s : List ℕ) (at : ℕ) → be (m + n) s at ≡ be m s at * 256 ^ n + be n s (at + m)
-unfolding be
-be_split m zero s at = rw (add-zero m) (omega arith)
-be_split m (suc n) s at = rw (add-suc m n) (
-    let e : at + (m + n) ≡ at + m + n = omega arith in
-    let p : be m s at * 256 ^ suc n ≡ be m s at * 256 ^ n * 256 = ap (λ (k : ℕ). be m s at * k) (pow-suc 256 n) ∙ sym (mul_assoc (be m s at) (256 ^ n) 256) in
-    ap₂ (λ (a b : ℕ). a * 256 + get_or s b 0) (be_split m n s at) e ∙ omega (arith, p))
-
--- and its bytes those of the two numbers, one after the other
+-- the bytes of a number are those of its upper part, then those of its lower
 pub bytes_split : (m n v : ℕ) → bytes (m + n) v ≡ bytes m (v / 256 ^ n) ++ bytes n v
 unfolding bytes
 bytes_split m zero v = rw (add-zero m, append-nil) (let e : v ≡ v / 1 = omega arith in ap (bytes m) e)
@@ -233,14 +223,6 @@ pub written_out : (n : ℕ) (s : List ℕ) → length s ≡ n → s ≡ firsts n
 written_out n s h =
     let rest : drop (n + 0) s ≡ [] = drop_of_length-le s {i = n + 0} (omega arith) in
     firsts_eq n 0 s (omega arith) ∙ ap (λ (l : List ℕ). firsts n 0 s ++ l) rest ∙ append-nil (firsts n 0 s)
-
--- a list cut at the smaller of a number and its length is cut at that number
-pub cut_at_smaller : (a n : ℕ) (s : List ℕ) → n ≡ min a (length s) → take n s ≡ take a s
-cut_at_smaller a n s e = by (dec_le a (length s))
-  where
-    by : Dec (a ≤ length s) → take n s ≡ take a s
-    by (yes h) = let z : n ≡ a = omega arith in ap (λ (k : ℕ). take k s) z
-    by (no h) = take_all n s (omega arith) ∙ sym (take_all a s (omega arith))
 
 -- a part of a slice, as the code takes it, is `slice`
 part_slice : (a k : ℕ) (s : List ℕ) → take k (drop a s) ≡ drop a (take (a + k) s)

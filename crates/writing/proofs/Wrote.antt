@@ -23,7 +23,8 @@ use Rattle.codes.specs.declared.operation.Operation.TheVariants.{Write, WriteFil
 use Rattle.codes.specs.Fields.{fixed_of, transfer_of, long_of}
 use Rattle.sense.specs.declared.Sense.{Sense}
 use Rattle.objects.specs.Transfer.{blocks_of, marks_of, fitting, put_from}
-use Rattle.changes.proofs.Down.{Down, AllHoldable, down, down_inside, marks_kept}
+use Rattle.changes.specs.Holdable.{AllHoldable}
+use Rattle.changes.proofs.Down.{Down, down, down_inside, marks_kept}
 use Rattle.deeds.specs.declared.deeds.Left.{Left}
 use Rattle.commands.specs.Act.{Deed, carrying, checked, good, at, warned, overflowed, offered, goes_down, wrote, writing, marking, events_of}
 use Rattle.commands.specs.Step.{acted}

@@ -11,7 +11,7 @@ use Rattle.acting.proofs.Told.{told_apart, among_apart}
 use Rattle.acting.proofs.act_on.Goals as goal
 
 pub read-requires : goal.read-requires
-read-requires c = asks_read c.requires c.in-Read.is
+read-requires c = let w = asks_read c.requires c.in-Read.is in rw c.of.ensures (w.1, w.2, w.3, w.4)
 
 pub write-requires : goal.write-requires
 write-requires c = asks_write c.requires c.in-Write.is
@@ -20,19 +20,19 @@ pub write_filemarks-requires : goal.write_filemarks-requires
 write_filemarks-requires c = let e : c.args.o ≡ WriteFilemarks = cc in asks_place c.requires e refl
 
 pub space-requires : goal.space-requires
-space-requires c = asks_place c.requires c.in-Space.is refl
+space-requires c = let w = asks_place c.requires c.in-Space.is refl in rw c.of-in-Space.ensures (w.1, w.2)
 
 pub space16-requires : goal.space16-requires
-space16-requires c = asks_space16 c.requires c.in-Space16.is
+space16-requires c = let w = asks_space16 c.requires c.in-Space16.is in rw c.of-in-Space16.ensures (w.1, w.2)
 
 pub locate-requires : goal.locate-requires
-locate-requires c = asks_locate c.requires c.in-Locate.is
+locate-requires c = (asks_locate c.requires c.in-Locate.is).1
 
 pub locate16-requires : goal.locate16-requires
-locate16-requires c = asks_locate16 c.requires c.in-Locate16.is
+locate16-requires c = (asks_locate16 c.requires c.in-Locate16.is).1
 
 pub read_position-requires : goal.read_position-requires
-read_position-requires c = asks_position c.requires c.in-ReadPosition.is
+read_position-requires c = let w = asks_position c.requires c.in-ReadPosition.is in rw c.of-in-ReadPosition.ensures (w.1, w.2, w.3)
 
 pub erase-requires : goal.erase-requires
 erase-requires c = let e : c.args.o ≡ Erase = cc in asks_place c.requires e refl
@@ -48,7 +48,7 @@ act_apart-requires c = asks_apart c.requires c.is_protected.ensures (told_apart 
 
 pub returns-in-Read : goal.returns-in-Read
 unfolding act
-returns-in-Read c = acts_laid _ _ _ _ _ Read c.in-Read.is c.read.ensures.0 refl c.read.ensures.1
+returns-in-Read c = acts_laid _ _ _ _ _ Read c.in-Read.is (rw c.of.ensures at c.read.ensures.0) refl (rw c.of.ensures at c.read.ensures.1)
 
 pub returns-in-Write : goal.returns-in-Write
 unfolding act laid_out acted
@@ -60,23 +60,23 @@ returns-in-WriteFilemarks c = acts_written _ _ _ _ _ WriteFilemarks (cc) (cc) (c
 
 pub returns-in-Space : goal.returns-in-Space
 unfolding act
-returns-in-Space c = acts_quiet _ _ _ _ _ Space c.in-Space.is c.space.ensures refl (spacing_none _ _ _ _)
+returns-in-Space c = acts_quiet _ _ _ _ _ Space c.in-Space.is (rw c.of-in-Space.ensures at c.space.ensures) refl (spacing_none _ _ _ _)
 
 pub returns-in-Space16 : goal.returns-in-Space16
 unfolding act
-returns-in-Space16 c = acts_quiet _ _ _ _ _ Space16 c.in-Space16.is c.space16.ensures refl (spacing_none _ _ _ _)
+returns-in-Space16 c = acts_quiet _ _ _ _ _ Space16 c.in-Space16.is (rw c.of-in-Space16.ensures at c.space16.ensures) refl (spacing_none _ _ _ _)
 
 pub returns-in-Locate : goal.returns-in-Locate
 unfolding act
-returns-in-Locate c = acts_quiet _ _ _ _ _ Locate c.in-Locate.is c.locate.ensures refl (locating_none _ _ _ _)
+returns-in-Locate c = acts_quiet _ _ _ _ _ Locate c.in-Locate.is (rw c.of-in-Locate.ensures at c.locate.ensures) refl (locating_none _ _ _ _)
 
 pub returns-in-Locate16 : goal.returns-in-Locate16
 unfolding act
-returns-in-Locate16 c = acts_quiet _ _ _ _ _ Locate16 c.in-Locate16.is c.locate16.ensures refl (locating_none _ _ _ _)
+returns-in-Locate16 c = acts_quiet _ _ _ _ _ Locate16 c.in-Locate16.is (rw c.of-in-Locate16.ensures at c.locate16.ensures) refl (locating_none _ _ _ _)
 
 pub returns-in-ReadPosition : goal.returns-in-ReadPosition
 unfolding act
-returns-in-ReadPosition c = acts_laid _ _ _ _ _ ReadPosition c.in-ReadPosition.is c.read_position.ensures.0 refl c.read_position.ensures.1
+returns-in-ReadPosition c = acts_laid _ _ _ _ _ ReadPosition c.in-ReadPosition.is (rw c.of-in-ReadPosition.ensures at c.read_position.ensures.0) refl (rw c.of-in-ReadPosition.ensures at c.read_position.ensures.1)
 
 pub returns-in-Erase : goal.returns-in-Erase
 unfolding act laid_out acted events_of

@@ -19,6 +19,6 @@ pub loop-done-preserved-in-Ok : goal.loop-done-preserved-in-Ok
 loop-done-preserved-in-Ok g c =
     let from = c.loop-done.done in
     let room = length c.loop-done.buf - from in
-    let (same, within, failed, consumed) = c.loop-done.invariant in
+    let (same, within, consumed) = c.loop-done.invariant in
     let joined = take-put_mid from room c.in-Ok.n c.loop-done.buf c.read.new.buf within c.in-Ok.ensures.bound.0 in
-    (search rules, search rules, failed, subst (Consumes _ _) joined (Consumes-trans _ _ _ _ _ consumed c.in-Ok.ensures.bytes.0))
+    (search rules, search rules, subst (Consumes _ _) joined (Consumes-trans _ _ _ _ _ consumed c.in-Ok.ensures.bytes.0))

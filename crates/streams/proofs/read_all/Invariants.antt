@@ -1,13 +1,13 @@
--- The loop has moved the first `done` bytes, and has not failed too often; each round moves one or fails once more.
-use Rattle.std.proofs.Common.{◌≡◌, ◌+◌, ◌-◌, ◌<◌, ◌≤◌, length, take}
+-- The loop has moved the first `done` bytes; each round moves one or fails once more.
+use Rattle.std.proofs.Common.{◌≡◌, ◌+◌, ◌-◌, ◌≤◌, length, take}
 use Rattle.std.specs.Io.KnownBytes.{Consumes}
 use Rattle.streams.specs.declared.TheConstants.{PATIENCE}
 use Rattle.streams.proofs.read_all.Given as goal
 
 abbrev pub invariant-loop-done : goal.invariant-loop-done
 invariant-loop-done g l =
-    (length l.buf ≡ length l.initial.buf) × (l.done ≤ length l.buf) × (l.failed < PATIENCE)
+    (length l.buf ≡ length l.initial.buf) × (l.done ≤ length l.buf)
     × Consumes (g.R.Read.remaining l.initial.reader) (g.R.Read.remaining l.reader) (take l.done l.buf)
 
 abbrev pub decreases-loop-done : goal.decreases-loop-done
-decreases-loop-done g l = length l.initial.buf - l.done + (PATIENCE - l.failed)
+decreases-loop-done g l = length l.initial.buf - l.done + (PATIENCE - l.failures.count)

@@ -1,18 +1,24 @@
 -- What one more write took stands behind what was written before.
-use Rattle.std.proofs.Common.{◌≡◌, ℕ, ◌+◌, ◌-◌, ◌≤◌, List, ◌++◌, rules, length, take, drop, sym, ap, ◌∙◌, subst}
+use Rattle.std.proofs.Common.{◌≡◌, ℕ, ◌+◌, ◌-◌, List, ◌++◌, length, take, drop, length-drop, sym, ap, ◌∙◌, subst, arith}
 use Rattle.std.specs.Io.KnownBytes.{Appends}
 use Rattle.std.proofs.KnownBytes.{Appends-trans}
-use lib.Seq.{take-add, take-take}
+use Rattle.std.proofs.lemmas.List.{take_rest, drop-drop}
+use Rattle.std.proofs.Math.Seq.{take-add}
 use Rattle.streams.proofs.write_all.Goals as goal
 
--- the first a + n elements: the first a, and the first n of those from a to the end
-front_and_more : (a n : ℕ) (xs : List ℕ) → n ≤ length xs - a → take a xs ++ take n (take (length xs - a) (drop a xs)) ≡ take (a + n) xs
-front_and_more a n xs h = ap (λ l. take a xs ++ l) (take-take n (length xs - a) (drop a xs) h) ∙ sym (take-add a n xs)
+-- the rest behind the first n elements: what is behind m more, and what m more and the first n are
+module _ (n : ℕ) (xs rest : List ℕ) (is : rest ≡ drop n xs) where
+  behind : (m : ℕ) → take (length rest - m) (drop m rest) ≡ drop (n + m) xs
+  behind m = take_rest rest m ∙ ap (drop m) is ∙ drop-drop m n xs
 
-pub loop-done-preserved-in-Ok : goal.loop-done-preserved-in-Ok
-loop-done-preserved-in-Ok g c =
-    let (within, failed, appended) = c.loop-done.invariant in
-    let all = c.args.buf.now in
-    let done = c.loop-done.done in
-    let fits : c.in-Ok.n ≤ length all - done = search rules in
-    (search rules, failed, subst (Appends _ _) (front_and_more done c.in-Ok.n all fits) (Appends-trans _ _ _ _ _ appended c.in-Ok.ensures.bytes))
+  joined : (m : ℕ) → take n xs ++ take m rest ≡ take (n + m) xs
+  joined m = ap (λ l. take n xs ++ take m l) is ∙ sym (take-add n m xs)
+
+pub loop-rest-preserved-in-Ok : goal.loop-rest-preserved-in-Ok
+loop-rest-preserved-in-Ok g c =
+    let (n, split, is, appended) = c.loop-rest.invariant in
+    let m = c.in-Ok.n in
+    let rest = c.loop-rest.rest.now in
+    let bytes = subst (Appends _ _) (joined n _ _ is m) (Appends-trans _ _ _ _ _ appended c.in-Ok.ensures.bytes) in
+    let fewer = length-drop m rest in
+    (n + m, ap (λ l. n + m + length l) (take_rest rest m) ∙ omega (arith, c.in-Ok.ensures.bound), behind n _ _ is _, bytes)

@@ -11,8 +11,7 @@ act_apart-requires c =
 pub returns-then-d-eq0 : goal.returns-then-d-eq0
 returns-then-d-eq0 c =
     let p = c.requires in
-    let a = c.answers_with.ensures in
-    acted_apart _ _ _ _ _ _ _ p.0 p.1 p.2 _ _ a.0 a.1 _ c.if-d-eq0.true c.act_apart.ensures
+    acted_apart _ _ _ _ _ _ _ p.0 p.1 p.2 _ _ c.into.ensures _ c.if-d-eq0.true c.act_apart.ensures
 
 pub looks_at-requires : goal.looks_at-requires
 looks_at-requires c =
@@ -27,16 +26,14 @@ act_on-requires c =
 pub returns-then-looks_at-eq1 : goal.returns-then-looks_at-eq1
 returns-then-looks_at-eq1 c =
     let p = c.requires in
-    let a = c.answers_with-then-looks_at-eq1.ensures in
-    acted_second _ _ _ _ _ _ _ p.0 p.1 p.2 _ _ a.0 a.1 _ c.if-d-eq0.false _ c.looks_at.ensures c.if-looks_at-eq1.true _ c.act_on.ensures
+    acted_second _ _ _ _ _ _ _ p.0 p.1 p.2 _ _ c.into-then-looks_at-eq1.ensures _ c.if-d-eq0.false _ c.looks_at.ensures c.if-looks_at-eq1.true _ c.act_on.ensures
 
-pub act_on-requires-2 : goal.act_on-requires-2
-act_on-requires-2 c =
+pub act_on-requires-else-looks_at-eq1 : goal.act_on-requires-else-looks_at-eq1
+act_on-requires-else-looks_at-eq1 c =
     let p = c.requires in
     asks_first _ _ _ _ c.args.p1.now _ _ p.0 p.1 p.2 c.if-d-eq0.false _ c.looks_at.ensures c.if-looks_at-eq1.false
 
-pub returns : goal.returns
-returns c =
+pub returns-else-looks_at-eq1 : goal.returns-else-looks_at-eq1
+returns-else-looks_at-eq1 c =
     let p = c.requires in
-    let a = c.answers_with-2.ensures in
-    acted_first _ _ _ _ _ _ _ p.0 p.1 p.2 _ _ a.0 a.1 _ c.if-d-eq0.false _ c.looks_at.ensures c.if-looks_at-eq1.false _ c.act_on-2.ensures
+    acted_first _ _ _ _ _ _ _ p.0 p.1 p.2 _ _ c.into-else-looks_at-eq1.ensures _ c.if-d-eq0.false _ c.looks_at.ensures c.if-looks_at-eq1.false _ c.act_on-else-looks_at-eq1.ensures

@@ -1,0 +1,42 @@
+-- What the iterators of `put_filemarks` and `put_blocks` give: n filemarks, and n blocks of b bytes each of the bytes sent.
+-- Assumes nothing.
+use Rattle.std.specs.Fn.{Called}
+use Rattle.std.specs.Iterator.{AlwaysYields}
+use Rattle.std.specs.Iterator.Adapters.{repeat_n_item, repeat_n_count, repeat_n_steps, map_source, map_callee, map_steps, take_source, take_count, take_steps}
+use Rattle.std.specs.Slice.Iter.{chunks_exact_rest, chunks_exact_size, chunks_exact_steps}
+use Rattle.std.specs.declared.iter.RepeatN.{RepeatN}
+use Rattle.std.specs.declared.iter.Map.{Map}
+use Rattle.std.specs.declared.iter.Take.{Take}
+use Rattle.std.specs.declared.slice.ChunksExact.{ChunksExact}
+use Rattle.std.proofs.Common.{◌≡◌, ℕ, zero, suc, ◌*◌, ◌≤◌, List, length, take, drop, Bor, arith, sym, ap, ◌∙◌, length-drop}
+use Rattle.std.proofs.lemmas.List.{take_at, drop_at}
+use native.Mathlib.Nat.{suc-mul}
+use denote.Param.Members.{Mut}
+use Rattle.objects.specs.Object as O
+use Rattle.objects.specs.Transfer.{blocks_of, marks_of}
+use Rattle.changes.specs.declared.events.Object.{Object}
+use Rattle.changes.specs.declared.events.Object.TheVariants.{Filemark, Block}
+use Rattle.changes.specs.Object.{object_of}
+
+pub marks_yielded : (n : ℕ) (it : RepeatN Object) → repeat_n_item it ≡ Filemark → repeat_n_count it ≡ n → AlwaysYields (repeat_n_steps (λ x y. y ≡ x)) object_of it (marks_of n)
+unfolding marks_of
+marks_yielded zero it e h = λ x j st. omega (arith, st.1.1)
+marks_yielded (suc n) it e h = (λ j st. omega (arith, st.1.0), λ x j st. (ap object_of (st.1.0 ∙ e), marks_yielded n j (st.0 ∙ e) (omega (arith, st.1.1))))
+
+module _ {F : Type 0} (g : Mut F (Bor (List ℕ) × Unit {0}) Object) (f : F) (makes : (y : Bor (List ℕ)) (r : Object) (h : F) → Called g f (y, tt) r h → (h ≡ f) × (r ≡ Block y)) where
+  pub blocks_yielded : (b n : ℕ) (x : List ℕ) (it : Map (Take (ChunksExact ℕ)) F) → map_callee it ≡ f → take_count (map_source it) ≡ n
+      → chunks_exact_size (take_source (map_source it)) ≡ b → chunks_exact_rest (take_source (map_source it)) ≡ x → n * b ≤ length x
+      → AlwaysYields (map_steps (take_steps chunks_exact_steps) g) object_of it (blocks_of b n x)
+  unfolding blocks_of
+  blocks_yielded b zero x it e c z s h = λ r j st. omega (arith, st.1.0.1)
+  blocks_yielded b (suc n) x it e c z s h = (
+    λ j st. omega (arith, suc-mul n b, ap length s, (st.0 (omega arith)).1.0),
+    λ r j (y, (d, k), w).
+        let v = makes y r (map_callee j) (rw e at w) in
+        let l : length y.now ≡ b = d.1.1 ∙ z in
+        let a = sym s ∙ d.1.0 in
+        let u = ap (drop b) a ∙ drop_at y.now _ b l in (
+          ap object_of v.1 ∙ ap O.block (sym (ap (take b) a ∙ take_at y.now _ b l)),
+          blocks_yielded b n (drop b x) j v.0 (omega arith) (d.0 ∙ z) (sym u) (omega (arith, suc-mul n b, length-drop b x)),
+        ),
+  )
