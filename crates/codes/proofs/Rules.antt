@@ -5,20 +5,43 @@ use mathlib.Core.Bool.{Bool, true, false, cond, ◌&&◌}
 use mathlib.Core.List.{List, [], ◌∷◌, ◌++◌}
 use Prim.Native.Nat.{ℕ, zero, suc, ◌+◌, ◌-◌, ◌<◌, ◌≤◌}
 use native.Mathlib.Omega.{arith}
-use borrow.Author.Tests.{leb-true, eqb-true}
+use borrow.Author.Tests.{eqb-true, ne_eqb}
 use Rattle.std.proofs.Math.Bool.{and-true, and_assoc}
-use Rattle.std.proofs.lemmas.Bool.{agree_below_at}
 use Rattle.std.proofs.lemmas.Bool.Decides.{nat_tests}
 use Rattle.std.specs.List.{list_all, zip}
 use lib.Bits.{bit_and}
 use lib.Dec.{eqb, leb}
-use lib.ListN.{length, get_or, take, drop, replicate}
+use lib.ListN.{length, get_or, take, drop, replicate, get_or-replicate}
 use lib.Seq.{get_or-take}
 use Rattle.codes.specs.declared.operation.Operation.{Operation}
 use Rattle.codes.specs.declared.operation.Operation.TheVariants.{TestUnitReady, Rewind, RequestSense, ReadBlockLimits, Read, Write, WriteFilemarks, Space, ModeSelect, Erase, ModeSense, LoadUnload, Locate, ReadPosition, Space16, Locate16, NotServed}
-use Rattle.codes.specs.Codes.{length_of, code_of, too_short, number_of, Row, no_row, find, operation_of, masks_of, mask_count, spread, in_masks, masks_hold}
+use Rattle.codes.specs.Codes.{length_of, code_of, too_short, number_of, Row, rows, no_row, find, row_of, operation_of, masks_of, mask_count, spread, in_masks, masks_hold}
+use Rattle.codes.proofs.Table.{tab, rule}
 
 -- ---- the row of an operation code
+
+-- what is known of a number that is none of the rows', said as a `match` says it: one number after the other
+abbrev pub Past : List Row → ℕ → Type 0 → Type 0
+Past [] op A = A
+Past (r ∷ rs) op A = Past rs op (A × (op ≡ number_of r.operation → ⊥))
+
+first_known : (rs : List Row) (op : ℕ) (A : Type 0) → Past rs op A → A
+first_known [] op A h = h
+first_known (r ∷ rs) op A h = (first_known rs op (A × (op ≡ number_of r.operation → ⊥)) h).0
+
+none_found : (rs : List Row) (op : ℕ) (A : Type 0) → Past rs op A → no_row ≡ find rs op
+none_found [] op A h = refl
+none_found (r ∷ rs) op A h =
+    let B : Type 0 = A × (op ≡ number_of r.operation → ⊥) in
+    let n : number_of r.operation ≡ op → ⊥ = λ e. (first_known rs op B h).1 (sym e) in
+    rw (ne_eqb (number_of r.operation) op n) (none_found rs op B h)
+
+-- in the code's matches: an arm for a code, and the last
+pub arm : {A : Type 0} (f : Row → A) {op n : ℕ} {x : A} → op ≡ n → x ≡ f (row_of n) → x ≡ f (row_of op)
+arm f e q = q ∙ ap (λ (k : ℕ). f (row_of k)) (sym e)
+
+pub last_arm : {A : Type 0} (f : Row → A) {op : ℕ} → Past rows op (Unit {0}) → f no_row ≡ f (row_of op)
+last_arm f {op} h = ap f (none_found rows op (Unit {0}) h)
 
 -- a row is found by the number of its operation, or none is
 pub data Found (op : ℕ) (r : Row) : Type 0 where
@@ -39,9 +62,19 @@ pub long_enough : (cmd : List ℕ) → too_short cmd ≡ false → (0 < length c
 unfolding too_short
 long_enough cmd h = grind (arith, nat_tests)
 
--- no command block is longer than its masks reach: computed at each of the 256 codes
+-- no command block is longer than its masks reach: 1 at each code where that is so, computed once over all
+reached : ℕ → ℕ
+reached op = cond (leb (length_of op) (mask_count + 1)) 1 0
+
+all_reached : tab reached 256 0 ≡ replicate 256 1
+unfolding reached
+all_reached = refl
+
 pub longest : (op : ℕ) → op < 256 → length_of op ≤ mask_count + 1
-longest op h = leb-true (length_of op) (mask_count + 1) (agree_below_at (λ (k : ℕ). leb (length_of k) (mask_count + 1)) (λ (k : ℕ). true) 256 op refl h)
+unfolding reached
+longest op h =
+    let one : reached op ≡ 1 = sym (rule reached 256 op h) ∙ ap (λ (l : List ℕ). get_or l op 0) all_reached ∙ get_or-replicate 256 op 1 0 h in
+    grind (arith, nat_tests, one)
 
 -- ---- masks
 

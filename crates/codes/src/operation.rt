@@ -28,28 +28,61 @@ pub enum Operation {
     NotServed = 0x100,
 }
 
+// The operation code of each command served.
+const TEST_UNIT_READY: u8 = Operation::TestUnitReady as u8;
+
+const REWIND: u8 = Operation::Rewind as u8;
+
+const REQUEST_SENSE: u8 = Operation::RequestSense as u8;
+
+const READ_BLOCK_LIMITS: u8 = Operation::ReadBlockLimits as u8;
+
+const READ: u8 = Operation::Read as u8;
+
+const WRITE: u8 = Operation::Write as u8;
+
+const WRITE_FILEMARKS: u8 = Operation::WriteFilemarks as u8;
+
+const SPACE: u8 = Operation::Space as u8;
+
+const MODE_SELECT: u8 = Operation::ModeSelect as u8;
+
+const ERASE: u8 = Operation::Erase as u8;
+
+const MODE_SENSE: u8 = Operation::ModeSense as u8;
+
+const LOAD_UNLOAD: u8 = Operation::LoadUnload as u8;
+
+const LOCATE: u8 = Operation::Locate as u8;
+
+const READ_POSITION: u8 = Operation::ReadPosition as u8;
+
+const SPACE_16: u8 = Operation::Space16 as u8;
+
+const LOCATE_16: u8 = Operation::Locate16 as u8;
+
 // The command of an operation code.
 impl From<u8> for Operation {
     ghost from_gives = { λ op o. o ≡ operation_of op };
 
     fn from(op: u8) -> Operation {
         match op {
-            0x00 => Operation::TestUnitReady,
-            0x01 => Operation::Rewind,
-            0x03 => Operation::RequestSense,
-            0x05 => Operation::ReadBlockLimits,
-            0x08 => Operation::Read,
-            0x0a => Operation::Write,
-            0x10 => Operation::WriteFilemarks,
-            0x11 => Operation::Space,
-            0x15 => Operation::ModeSelect,
-            0x19 => Operation::Erase,
-            0x1a => Operation::ModeSense,
-            0x1b => Operation::LoadUnload,
-            0x2b => Operation::Locate,
-            0x34 => Operation::ReadPosition,
-            0x91 => Operation::Space16,
-            0x92 => Operation::Locate16,
+            TEST_UNIT_READY => Operation::TestUnitReady,
+            REWIND => Operation::Rewind,
+            REQUEST_SENSE => Operation::RequestSense,
+            READ_BLOCK_LIMITS => Operation::ReadBlockLimits,
+            READ => Operation::Read,
+            WRITE => Operation::Write,
+            WRITE_FILEMARKS => Operation::WriteFilemarks,
+            SPACE => Operation::Space,
+            MODE_SELECT => Operation::ModeSelect,
+            ERASE => Operation::Erase,
+            MODE_SENSE => Operation::ModeSense,
+            LOAD_UNLOAD => Operation::LoadUnload,
+            LOCATE => Operation::Locate,
+            READ_POSITION => Operation::ReadPosition,
+            SPACE_16 => Operation::Space16,
+            LOCATE_16 => Operation::Locate16,
             _ => Operation::NotServed,
         }
     }
@@ -75,23 +108,23 @@ pub fn block_length(op: u8) -> u8
 pub fn masks_of(op: u8) -> [u8; WIDTH]
     ensures { result ≡ spread (masks_of op) }
 {
-    match Operation::from(op) {
-        Operation::TestUnitReady => masks::TEST_UNIT_READY_MASKS,
-        Operation::Rewind => masks::REWIND_MASKS,
-        Operation::RequestSense => masks::REQUEST_SENSE_MASKS,
-        Operation::ReadBlockLimits => masks::READ_BLOCK_LIMITS_MASKS,
-        Operation::Read => masks::READ_MASKS,
-        Operation::Write => masks::WRITE_MASKS,
-        Operation::WriteFilemarks => masks::WRITE_FILEMARKS_MASKS,
-        Operation::Space => masks::SPACE_MASKS,
-        Operation::ModeSelect => masks::MODE_SELECT_MASKS,
-        Operation::Erase => masks::ERASE_MASKS,
-        Operation::ModeSense => masks::MODE_SENSE_MASKS,
-        Operation::LoadUnload => masks::LOAD_UNLOAD_MASKS,
-        Operation::Locate => masks::LOCATE_MASKS,
-        Operation::ReadPosition => masks::READ_POSITION_MASKS,
-        Operation::Space16 => masks::SPACE_16_MASKS,
-        Operation::Locate16 => masks::LOCATE_16_MASKS,
-        Operation::NotServed => masks::NO_MASKS,
+    match op {
+        TEST_UNIT_READY => masks::TEST_UNIT_READY_MASKS,
+        REWIND => masks::REWIND_MASKS,
+        REQUEST_SENSE => masks::REQUEST_SENSE_MASKS,
+        READ_BLOCK_LIMITS => masks::READ_BLOCK_LIMITS_MASKS,
+        READ => masks::READ_MASKS,
+        WRITE => masks::WRITE_MASKS,
+        WRITE_FILEMARKS => masks::WRITE_FILEMARKS_MASKS,
+        SPACE => masks::SPACE_MASKS,
+        MODE_SELECT => masks::MODE_SELECT_MASKS,
+        ERASE => masks::ERASE_MASKS,
+        MODE_SENSE => masks::MODE_SENSE_MASKS,
+        LOAD_UNLOAD => masks::LOAD_UNLOAD_MASKS,
+        LOCATE => masks::LOCATE_MASKS,
+        READ_POSITION => masks::READ_POSITION_MASKS,
+        SPACE_16 => masks::SPACE_16_MASKS,
+        LOCATE_16 => masks::LOCATE_16_MASKS,
+        _ => masks::NO_MASKS,
     }
 }

@@ -7,10 +7,10 @@ ghost use Rattle.commands.specs.Act.{warned, overflowed};
 ghost use Rattle.commands.specs.Call.{seen_of};
 
 use image::Image;
-use sense::{Code, Flags, Sense, residue_of};
+use sense::{Code, Flags, Residue, Sense, residue_of};
 
 // A filemark met: 0/00/01, FILEMARK; by its residue, and by a request and an actual that are not below zero.
-pub fn filemark_told(residue: Option<u32>) -> Sense
+pub fn filemark_told(residue: Residue) -> Sense
     ensures { (z : ℤ) → Shows residue z → result ≡ filemark_met z }
 {
     sense::told(true, Flags::FILEMARK, Code::FILEMARK_DETECTED, residue)
@@ -35,7 +35,7 @@ pub fn odd_met(request: u32, actual: u32) -> Sense
 }
 
 // The beginning met: 0/00/04, EOM.
-pub fn beginning_met(residue: Option<u32>) -> Sense
+pub fn beginning_met(residue: Residue) -> Sense
     ensures { (z : ℤ) → Shows residue z → result ≡ beginning_met z }
 {
     sense::told(true, Flags::EOM, Code::BEGINNING_OF_PARTITION, residue)

@@ -1,4 +1,5 @@
 pub mod Determined
+pub mod Results
 pub mod House
 pub mod Tells
 pub mod Ruled

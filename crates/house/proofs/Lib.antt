@@ -1,3 +1,4 @@
 pub mod Answered
+pub mod Cases
 pub mod Made
 pub mod Mounted

@@ -1,16 +1,17 @@
 -- What the definitions of the image say, as facts: entries, ends that only grow, a sound image's parts, and both ways between
 -- the test `sound` and them.
 -- Assumes nothing.
-use Rattle.std.proofs.Common.{◌≡◌, ℕ, zero, suc, ◌+◌, ◌-◌, ◌*◌, ◌/◌, ◌%◌, ◌^◌, ◌<◌, ◌≤◌, Bool, true, false, cond, ◌&&◌, eqb, ltb, leb, List, length, map, sym, refl, ap, ap₂, ◌∙◌, zero-add, add-one, arith, ltb-true, lt-ltb, eq-eqb, ne_eqb, eqb-true, le-leb, leb-true}
+use Rattle.std.proofs.Common.{◌≡◌, ℕ, zero, suc, ◌+◌, ◌-◌, ◌*◌, ◌/◌, ◌%◌, ◌^◌, ◌<◌, ◌≤◌, Bool, true, false, cond, ◌&&◌, eqb, ltb, leb, List, length, map, sym, refl, ap, ap₂, ◌∙◌, zero-add, add-one, arith, ltb-true, le-ltb, lt-ltb, eq-eqb, ne_eqb, eqb-true, le-leb, leb-true}
 use native.Mathlib.Decide.{le_ind}
-use lib.Bits.{bit_or, or_shifted, or_shifted_r}
+use lib.Bits.{bit_or, bit_and, or_shifted, or_shifted_r, and_mask}
 use mir.Val.{bool_byte}
+use borrow.Author.Tests.{eqb-false, lt-leb}
 use Rattle.std.specs.List.{range_with_len, sum}
 use Rattle.std.proofs.lemmas.List.FromFn.{sum_by-map-range_with_len_more}
 use Rattle.objects.specs.Object.{largest_block}
 use Rattle.objects.specs.Room.{trailer_length, entry_length}
 use Rattle.image.specs.Image.{least_length, most_length, flag_bits, count, flags, directory, size, entry, top_bit, low31, end_at, follows, ordered, right_length, sound, used, room, fits, filemarks_before}
-use Rattle.image.proofs.Tests.{both, cases}
+use Rattle.image.proofs.Tests.{both, cases, split}
 
 -- ---- an entry's two parts
 
@@ -34,9 +35,25 @@ pub low_lt : (e : ℕ) → low31 e < 2 ^ 31
 unfolding low31
 low_lt e = omega arith
 
--- as the code sets the top bit
+-- as the code masks and sets them
+pub masked : (e : ℕ) → bit_and e 2147483647 ≡ low31 e
+unfolding low31
+masked e = and_mask e 31
+
 pub marked : (p : ℕ) → p < 2 ^ 31 → bit_or p 2147483648 ≡ 2 ^ 31 + p
 marked p h = or_shifted_r 1 31 p h
+
+-- the top bit as the number 0 or 1
+pub top_number : (e : ℕ) → e < 2 ^ 32 → cond (top_bit e) 1 0 ≡ e / 2 ^ 31
+unfolding top_bit
+top_number e h = by (eqb (e / 2 ^ 31) 1) refl
+  where
+    by : (t : Bool) → eqb (e / 2 ^ 31) 1 ≡ t → cond t 1 0 ≡ e / 2 ^ 31
+    by true q = sym (eqb-true (e / 2 ^ 31) 1 q)
+    by false q =
+        let small : e / 2 ^ 31 < 2 = omega arith in
+        let other : e / 2 ^ 31 ≡ 1 → ⊥ = eqb-false (e / 2 ^ 31) 1 q in
+        omega arith
 
 -- ---- one entry after an end
 
@@ -161,6 +178,41 @@ fits_room s n k h =
 pub room_fits : (s : List ℕ) (n k : ℕ) → entry_length * n + end_at s n + entry_length + k + trailer_length ≤ length s → fits s n k ≡ true
 unfolding fits room used
 room_fits s n k h = le-leb (entry_length + k) (length s - trailer_length - (entry_length * n + end_at s n)) (omega arith)
+
+-- ---- as the code tests an entry: what e adds to p, less the byte that a block must add, wrapped
+
+module _ (p e more : ℕ) (hp : p < 2 ^ 31) (he : e < 2 ^ 32) (hm : more < 2 ^ 32) where
+  tested_filemark : e / 2 ^ 31 ≡ 1 → (more + p) % 2 ^ 32 ≡ low31 e → leb more 0 ≡ eqb (low31 e) p
+  unfolding low31
+  tested_filemark t w =
+      split more 1
+      (λ l. le-leb more 0 (omega arith) ∙ sym (eq-eqb (e % 2 ^ 31) p (omega arith)))
+      (λ l. lt-leb more 0 l ∙ sym (ne_eqb (e % 2 ^ 31) p (omega arith)))
+
+  tested_block : (more + (p + 1)) % 2 ^ 32 ≡ low31 e → leb more (largest_block - 1) ≡ ltb p (low31 e) && leb (low31 e) (p + largest_block)
+  unfolding low31
+  tested_block w =
+      split p (e % 2 ^ 31)
+      (λ l. rw (lt-ltb p (e % 2 ^ 31) l) (split (largest_block - 1) more
+      (λ k. lt-leb more (largest_block - 1) k ∙ sym (lt-leb (e % 2 ^ 31) (p + largest_block) (omega arith)))
+      (λ k. le-leb more (largest_block - 1) k ∙ sym (le-leb (e % 2 ^ 31) (p + largest_block) (omega arith)))))
+      (λ l. rw (le-ltb p (e % 2 ^ 31) l) (lt-leb more (largest_block - 1) (omega arith)))
+
+  pub tested_entry : (block end : ℕ) → block ≡ 1 - e / 2 ^ 31 → end ≡ low31 e → (more + (p + block)) % 2 ^ 32 ≡ end → leb more (block * (largest_block - 1)) ≡ follows p e
+  unfolding follows top_bit
+  tested_entry block end hb hend w = by (eqb (e / 2 ^ 31) 1) refl
+    where
+      by : (t : Bool) → eqb (e / 2 ^ 31) 1 ≡ t → leb more (block * (largest_block - 1)) ≡ cond t (eqb (low31 e) p) (ltb p (low31 e) && leb (low31 e) (p + largest_block))
+      by true q =
+          let one : e / 2 ^ 31 ≡ 1 = eqb-true (e / 2 ^ 31) 1 q in
+          let none : block ≡ 0 = omega arith in
+          let w₀ : (more + p) % 2 ^ 32 ≡ low31 e = omega arith in
+          rw none (tested_filemark one w₀)
+      by false q =
+          let other : e / 2 ^ 31 ≡ 1 → ⊥ = eqb-false (e / 2 ^ 31) 1 q in
+          let one : block ≡ 1 = omega arith in
+          let w₁ : (more + (p + 1)) % 2 ^ 32 ≡ low31 e = omega arith in
+          rw one (tested_block w₁)
 
 -- ---- filemarks counted by a sum over the entries
 

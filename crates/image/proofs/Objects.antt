@@ -7,6 +7,7 @@ use native.Mathlib.Decide.{dec_le}
 use lib.ListN.{get_elem?, get_or-append}
 use lib.Seq.{slice, length-slice, take-append-le, get_or_at}
 use Rattle.objects.specs.Object.{Object, filemark, block, is_filemark, data_of, bytes_in, filemarks_in}
+use Rattle.objects.specs.Movement.{before}
 use Rattle.objects.proofs.Standing.{get_past}
 use Rattle.objects.proofs.Count.{bytes_snoc, filemarks_snoc}
 use Rattle.image.specs.Image.{count, entry, top_bit, end_at, object_at, upto, objects, filemarks_before}
@@ -63,6 +64,10 @@ pub ahead_step : (s : List ℕ) (p : ℕ) → p < count s → drop p (objects s)
 ahead_step s p h =
     drop-cons (objects s) p filemark (omega (arith, length_objects s))
     ∙ ap (λ (o : Object). o ∷ drop (suc p) (objects s)) (object_is s p filemark h)
+
+pub behind_step : (s : List ℕ) (p : ℕ) → p < count s → before (suc p) (objects s) ≡ object_at s p ∷ before p (objects s)
+unfolding before
+behind_step s p h = ap (λ (o : Object). o ∷ before p (objects s)) (object_is s p filemark h)
 
 -- the object at a number, and none behind the last
 get_drop : (xs : List Object) (p : ℕ) → get_elem? xs p ≡ get_elem? (drop p xs) 0

@@ -43,11 +43,11 @@ impl<'a> Image<'a> {
     }
 
     // Whether object i is a filemark.
-    pub fn is_filemark(&self, i: u32) -> bool
+    pub fn is_filemark(&self, i: usize) -> bool
         requires { i < count self.now.bytes }
         ensures { result ≡ top_bit (entry self.now.bytes i) }
     {
-        entries::is_filemark(self.bytes, i as usize)
+        entries::is_filemark(self.bytes, i)
     }
 
     // The bytes of block i.

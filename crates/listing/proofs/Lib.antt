@@ -1,4 +1,6 @@
 pub mod Example
-pub mod Decimal
+pub mod Digits
+pub mod Appended
 pub mod Refused
 pub mod Lines
+pub mod Listed

@@ -1,19 +1,26 @@
--- The lines of a listing: one more behind others, and what each consists of by its object's entry, as `{}` writes it. And what the
--- code asks of an input that is not refused.
+-- The lines of a listing: one more behind others, what each consists of by its object's entry, and the most bytes that they have.
+-- An input that is not refused holds at most 16,380 objects, and every number in its listing is below 100,000.
 -- Assumes nothing.
-use Rattle.std.proofs.Common.{◌≡◌, refl, sym, ap, ◌∙◌, ℕ, suc, ◌+◌, ◌-◌, ◌*◌, ◌^◌, ◌<◌, ◌≤◌, true, false, List, [], ◌∷◌, ◌++◌, append_assoc, append-nil, add-zero, zero-add, add-one, length, arith}
-use Rattle.std.specs.Fmt as Fmt
-use borrow.Author.Tests.{eq-eqb, ne_eqb}
-use lib.Seq.{slice, length-slice}
+use Prim.Native.Nat.{ℕ, zero, suc, ◌+◌, ◌-◌, ◌*◌, ◌<◌, ◌≤◌}
+use mathlib.Core.Bool.{true, false}
+use mathlib.Core.Path.{◌≡◌, refl, sym, ap, ◌∙◌}
+use mathlib.Core.List.{List, [], ◌∷◌, ◌++◌, append_assoc, append-nil}
+use native.Mathlib.Nat.{add-zero, zero-add}
+use native.Mathlib.Numerals.{add-one}
+use native.Mathlib.Omega.{arith}
+use lib.ListN.{length, length-append}
+use lib.Seq.{length-slice}
 use Rattle.objects.specs.Object.{Object}
 use Rattle.objects.specs.Room.{trailer_length, entry_length}
-use Rattle.image.specs.Image.{count, entry, top_bit, end_at, room, object_at, upto, objects}
+use Rattle.image.specs.Image.{count, entry, top_bit, end_at, room, object_at, upto}
+use Rattle.image.proofs.Tests.{cases}
 use Rattle.image.proofs.Facts.{entries_in}
 use Rattle.image.proofs.Objects.{length_upto}
 use Rattle.image.proofs.Judged.{object_in}
-use Rattle.listing.specs.Text.{word_objects, word_free, word_block, word_filemark, word_refused, newline}
-use Rattle.listing.specs.Listing.{refusal, line, lines, heading, listing}
-use Rattle.listing.proofs.Decimal.{decimal_printed}
+use Rattle.listing.specs.Text.{decimal, word_block, word_filemark, newline}
+use Rattle.listing.specs.Listing.{most_input, refusal, line, lines, heading}
+use Rattle.listing.specs.Room.{heading_room, line_room}
+use Rattle.listing.proofs.Digits.{five_digits}
 use Rattle.listing.proofs.Refused.{not_refused}
 
 -- ---- one line more
@@ -34,16 +41,18 @@ lines_next f i =
     let e : 0 + length (upto f i) ≡ i = zero-add (length (upto f i)) ∙ length_upto f i in
     rw add-one (lines_snoc 0 (upto f i) (f i) ∙ ap (λ (n : ℕ). lines 0 (upto f i) ++ line n (f i)) e)
 
--- ---- the listing by the refusal
+-- ---- a line by its object's entry
 
-pub listing_objects : (s : List ℕ) → refusal s ≡ 0 → heading s ++ lines 0 (objects s) ≡ listing s
-unfolding listing
-listing_objects s none = rw (eq-eqb (refusal s) 0 none) refl
+pub filemark_line : (s : List ℕ) (i : ℕ) → top_bit (entry s i) ≡ true → line i (object_at s i) ≡ decimal i ++ word_filemark ++ newline
+unfolding object_at line
+filemark_line s i h = rw h refl
 
-pub listing_refused : (s : List ℕ) (r : ℕ) → r ≡ refusal s → ¬ (r ≡ 0) → r < 2 ^ 64
-    → word_refused ++ (Fmt.decimal r ++ newline) ≡ listing s
-unfolding listing
-listing_refused s r e some small = rw (← e, ne_eqb r 0 some, decimal_printed r small) refl
+pub block_line : (s : List ℕ) (i : ℕ) → top_bit (entry s i) ≡ false → end_at s (i + 1) ≤ length s
+    → line i (object_at s i) ≡ decimal i ++ word_block ++ decimal (end_at s (i + 1) - end_at s i) ++ newline
+unfolding object_at line
+block_line s i h l =
+    let e : end_at s (i + 1) ≡ end_at s (suc i) = ap (end_at s) (add-one i) in
+    rw (h, e, length-slice (end_at s i) (end_at s (suc i)) s (omega arith)) refl
 
 -- ---- an input that is not refused
 
@@ -58,8 +67,13 @@ module _ (s : List ℕ) (none : refusal s ≡ 0) where
   pub trailer_fits : trailer_length ≤ length s
   trailer_fits = omega (arith, count_fits (count s) refl)
 
-  count_small : count s ≤ 16380
+  -- how large what it reads is
+  pub count_small : count s ≤ 16380
   count_small = omega (arith, count_fits (count s) refl, (not_refused s none).1)
+
+  pub room_small : (n f : ℕ) → f ≡ room s n → f ≤ most_input
+  unfolding room
+  room_small n f e = omega (arith, (not_refused s none).1)
 
   pub ends_small : (i : ℕ) → i < count s → (end_at s i ≤ end_at s (i + 1)) × (end_at s (i + 1) ≤ length s)
   ends_small i h =
@@ -67,29 +81,33 @@ module _ (s : List ℕ) (none : refusal s ≡ 0) where
       let o = object_in s k i h in
       (o.0, omega (arith, k.dir_is))
 
-  -- line one, as `{}` writes it
-  pub heading_printed : (n f : ℕ) → n ≡ count s → f ≡ room s n → f < 2 ^ 64
-      → word_objects ++ (Fmt.decimal n ++ (word_free ++ (Fmt.decimal f ++ newline))) ≡ heading s
+  -- each number has at most five digits: N, the room, an object's number, a block's length
+  pub count_short : (n : ℕ) → n ≡ count s → length (decimal n) ≤ 5
+  count_short n e = five_digits n (omega (arith, count_small))
+
+  pub number_short : (i : ℕ) → i < count s → length (decimal i) ≤ 5
+  number_short i h = five_digits i (omega (arith, count_small))
+
+  pub heading_digits : (n m f : ℕ) → n ≡ count s → f ≡ room s m → (length (decimal n) ≤ 5) × (length (decimal f) ≤ 5)
+  heading_digits n m f en ef = (count_short n en, five_digits f (omega (arith, room_small m f ef)))
+
+  pub block_digits : (i a b : ℕ) → i < count s → a ≡ end_at s i → b ≡ end_at s (i + 1) → (length (decimal i) ≤ 5) × (length (decimal (b - a)) ≤ 5)
+  block_digits i a b h ea eb = (number_short i h, five_digits (b - a) (omega (arith, ends_small i h, (not_refused s none).1)))
+
+  -- so the lines are short
+  pub heading_short : length (heading s) ≤ heading_room
   unfolding heading
-  heading_printed n f en ef small =
-      let a = Fmt.decimal n in
-      let b = Fmt.decimal f in
-      let tail : a ++ (word_free ++ (b ++ newline)) ≡ a ++ word_free ++ b ++ newline
-      = sym (append_assoc (a ++ word_free) b newline ∙ append_assoc a word_free (b ++ newline)) in
-      rw (← en, ← ef, decimal_printed n (omega (arith, count_small)), decimal_printed f small) (ap (λ l. word_objects ++ l) tail)
+  heading_short = simp length-append (omega (arith, heading_digits (count s) (count s) (room s (count s)) refl refl))
 
-  -- an object's line, by its entry
-  pub filemark_printed : (i : ℕ) → i < count s → top_bit (entry s i) ≡ true
-      → Fmt.decimal i ++ (word_filemark ++ newline) ≡ line i (object_at s i)
-  unfolding object_at line
-  filemark_printed i h t = rw (t, decimal_printed i (omega (arith, count_small)), append_assoc) refl
+  pub line_short : (i : ℕ) → i < count s → length (line i (object_at s i)) ≤ line_room
+  line_short i h =
+      let digits = block_digits i (end_at s i) (end_at s (i + 1)) h refl refl in
+      cases (top_bit (entry s i))
+      (λ t. rw (filemark_line s i t) (simp length-append (omega arith)))
+      (λ t. rw (block_line s i t (ends_small i h).1) (simp length-append (omega arith)))
 
-  pub block_printed : (i n : ℕ) → i < count s → top_bit (entry s i) ≡ false → n ≡ end_at s (i + 1) - end_at s i
-      → Fmt.decimal i ++ (word_block ++ (Fmt.decimal n ++ newline)) ≡ line i (object_at s i)
-  unfolding object_at line
-  block_printed i n h t e =
-      let small = decimal_printed n (omega (arith, ends_small i h, (not_refused s none).1)) in
-      let next : end_at s (i + 1) ≡ end_at s (suc i) = ap (end_at s) (add-one i) in
-      let size : length (slice (end_at s i) (end_at s (suc i)) s) ≡ n
-      = length-slice (end_at s i) (end_at s (suc i)) s (rw next at (ends_small i h).1) ∙ sym (rw next at e) in
-      rw (t, size, decimal_printed i (omega (arith, count_small)), small) (simp append_assoc refl)
+  pub lines_short : (i : ℕ) → i ≤ count s → length (lines 0 (upto (object_at s) i)) ≤ line_room * i
+  lines_short zero h = unfold upto lines in omega arith
+  lines_short (suc i) h =
+      let e : i + 1 ≡ suc i = add-one i in
+      rw (← e, lines_next (object_at s) i, length-append) (omega (arith, lines_short i (omega arith), line_short i h))

@@ -30,10 +30,10 @@ most = 2 ^ 32 - 1
 
 -- ---- of the objects of an image there are fewer
 
-few : (s : List ℕ) → sound s ≡ true → length (objects s) < 2 ^ 30
+pub few : (s : List ℕ) → sound s ≡ true → length (objects s) < 2 ^ 30
 few s h = omega (arith, length_objects s, (sound_parts s h).dir_is, (sound_parts s h).most)
 
-walk_bounded : (c : Code) (n : ℕ) (xs : List Object) → length xs < 2 ^ 30 → walk c (min n most) xs ≡ walk c n xs
+pub walk_bounded : (c : Code) (n : ℕ) (xs : List Object) → length xs < 2 ^ 30 → walk c (min n most) xs ≡ walk c n xs
 walk_bounded c n xs h = go (dec_le n most)
   where
     go : Dec (n ≤ most) → walk c (min n most) xs ≡ walk c n xs
@@ -101,7 +101,7 @@ module _ (d : Drive) (s : List ℕ) (v : Seen) (h : sound s ≡ true) (l : d.pos
   far : (k k' : ℤ) → OneWay k k' → space c k p xs ≡ space c k' p xs → Unfit k → Unfit k' → by k ≡ by k'
   far k k' w e a b = ap (λ (m : Move). moved d v k m) e ∙ unfit d v (space c k' p xs) k k' w (subst (λ (m : Move). fits32 (residue k m) ≡ false) e a) b
 
-  far_on : (n : ℕ) → by (pos (min n most)) ≡ by (pos n)
+  pub far_on : (n : ℕ) → by (pos (min n most)) ≡ by (pos n)
   far_on n = go (dec_le n most)
     where
       same : space c (pos (min n most)) p xs ≡ space c (pos n) p xs
@@ -127,7 +127,7 @@ module _ (d : Drive) (s : List ℕ) (v : Seen) (h : sound s ≡ true) (l : d.pos
       go (yes k) = ap (λ (j : ℕ). by (negsuc j)) (let q : m ≡ n = omega arith in q)
       go (no k) = far (negsuc m) (negsuc n) tt same (rest m (omega arith)) (rest n (omega arith))
 
-  far_back : (n : ℕ) → 0 < n → by (neg_ℤ (pos (min n most))) ≡ by (neg_ℤ (pos n))
+  pub far_back : (n : ℕ) → 0 < n → by (neg_ℤ (pos (min n most))) ≡ by (neg_ℤ (pos n))
   far_back zero k = absurd (let z : ⊥ = omega arith in z)
   far_back (suc n) k =
       let e : min (suc n) most ≡ suc (min (suc n) most - 1) = omega arith in

@@ -14,7 +14,7 @@ use deeds::Left;
 use image::Image;
 use kinds::{OVER_BLOCKS, TO_END};
 use record::Drive;
-use sense::{PAST_32_BITS, Sense};
+use sense::{PAST_32_BITS, Residue, Sense};
 use walks::{Back, Counted, On, Why, walk};
 
 // GOOD there, with so many objects crossed.
@@ -46,16 +46,17 @@ fn space_on(image: &Image, d: Drive, what: Counted, n: u32) -> Left
     }
 }
 
-// The residue of a SPACE by the count -n, where 32 signed bits hold it: -n less -counted, each in two's complement.
+// The residue of a SPACE by the count -n: -n less -counted, each in two's complement.
 #[tactic(auto, using(crate::proofs::Spaced::shown_back))]
-fn residue_back(n: u32, counted: u32) -> Option<u32>
+fn residue_back(n: u32, counted: u32) -> Residue
     requires { counted ≤ n }
     ensures { Shows result (neg_ℤ (pos n) -ℤ neg_ℤ (pos counted)) }
 {
     let fits = n - counted <= PAST_32_BITS;
     let request = words::difference(0, n);
     let actual = words::difference(0, counted);
-    fits.then_some(words::difference(request, actual))
+    let bits = words::difference(request, actual);
+    if fits { Ok(bits) } else { Err(bits) }
 }
 
 // SPACE by the count -n.

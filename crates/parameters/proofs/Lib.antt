@@ -1,1 +1,2 @@
 pub mod Positioned
+pub mod Selected

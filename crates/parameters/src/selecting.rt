@@ -31,7 +31,7 @@ pub fn select(d: Drive, cmd: &[u8], sent: &[u8]) -> Left
         return deeds::good(d, 0);
     }
     if !is_list_right(n, sent) {
-        let told = sense::told(false, Flags::NONE, Code::INVALID_LIST_FIELD, None);
+        let told = sense::told(false, Flags::NONE, Code::INVALID_LIST_FIELD, Ok(0));
         return deeds::checked(d, told, 0);
     }
     if n as usize == kinds::WHOLE_LENGTH {

@@ -11,9 +11,10 @@ use mir.Val.{bool_byte}
 use Rattle.words.specs.Words.{bytes}
 use Rattle.words.proofs.Laws.{bytes_split}
 use Rattle.words.proofs.Stores.{three_bytes, four_bytes}
+use Rattle.objects.specs.Object.{largest_block}
 use Rattle.commands.specs.Parameters.{block_limits, mode_data, position_flags, short_position, long_position}
 
-pub limits : block_limits ≡ 0 ∷ 1048576 / 65536 % 256 ∷ 1048576 / 256 % 256 ∷ 1048576 % 256 ∷ 0 ∷ 1 ∷ []
+pub limits : block_limits ≡ 0 ∷ largest_block / 65536 % 256 ∷ largest_block / 256 % 256 ∷ largest_block % 256 ∷ 0 ∷ 1 ∷ []
 unfolding block_limits bytes
 limits = refl
 

@@ -1,14 +1,15 @@
--- What a READ without FIXED meets at the position, and what it then leaves.
+-- What a READ without FIXED meets at the position, and what it then leaves; and which of the two READs is done.
 -- Assumes nothing.
 use Prim.Native.Nat.{ℕ, ◌+◌, ◌^◌, ◌≤◌, ◌<◌}
 use native.Mathlib.Omega.{arith}
 use native.Mathlib.Numerals.{add-one}
 use mathlib.Core.Path.{◌≡◌, refl, sym, ap, ◌∙◌}
-use mathlib.Core.Bool.{true, false}
+use mathlib.Core.Bool.{Bool, true, false}
 use mathlib.Core.Option.{some}
 use mathlib.Core.List.{List}
+use borrow.Author.Tests.{eq-eqb, ne_eqb}
 use lib.IntN.{sub_ℕ}
-use lib.ListN.{length, take, get_elem?}
+use lib.ListN.{length, take, drop, get_elem?}
 use lib.Seq.{slice, length-slice}
 use Rattle.words.specs.Words.{over}
 use Rattle.words.proofs.Laws.{over_nil}
@@ -18,11 +19,13 @@ use Rattle.objects.proofs.Residue.{all_left}
 use Rattle.image.specs.Image.{count, entry, top_bit, end_at, object_at, objects, sound}
 use Rattle.image.proofs.Objects.{object_there, object_past}
 use Rattle.record.specs.declared.drive.Drive.{Drive}
-use Rattle.codes.specs.Fields.{transfer_of}
+use Rattle.codes.specs.Fields.{fixed_of, transfer_of}
 use Rattle.deeds.specs.declared.deeds.Left.{Left}
 use Rattle.image.proofs.Facts.{end_lt}
 use Rattle.image.proofs.Lies.{lies}
-use Rattle.commands.specs.Act.{Seen, carrying, checked, at, filemark_met, end_met, read_block, read_variable}
+use Rattle.objects.specs.Transfer.{run_of}
+use Rattle.commands.specs.Act.{Seen, carrying, good, checked, at, filemark_met, end_met, read_block, read_variable, read_run, reading}
+use Rattle.commands.specs.Call.{seen_of}
 use Rattle.deeds.specs.Left.{left_by}
 
 -- ---- what lies at a position
@@ -52,3 +55,20 @@ module _ (d : Drive) (cmd s x : List ℕ) (n : ℕ) (v : Seen) (en : n ≡ trans
     pub meets_block : top_bit (entry s d.position) ≡ false → (bs : List ℕ) → bs ≡ slice (end_at s d.position) (end_at s (d.position + 1)) s → (y : List ℕ) → (r ≡ left_by (read_block d cmd bs)) × (y ≡ over x 0 (take n bs)) → (r ≡ left_by (read_variable d cmd v (get_elem? (objects s) d.position))) × (y ≡ over x 0 (read_variable d cmd v (get_elem? (objects s) d.position)).received)
     unfolding read_variable
     meets_block hm bs e y q = rw (block_there s d.position bs h hm e) (q.0, q.1 ∙ rw en refl)
+
+-- ---- which READ it is: n is the length asked for
+
+module _ (d : Drive) (cmd s x : List ℕ) (n : ℕ) (en : n ≡ transfer_of cmd) (r : Left) where
+  pub reads_none : n ≡ 0 → r ≡ left_by (carrying 0 (good d)) → (r ≡ left_by (reading d cmd (seen_of s))) × (x ≡ over x 0 (reading d cmd (seen_of s)).received)
+  unfolding reading
+  reads_none h q = rw (← en, eq-eqb n 0 h) (q, sym (over_nil x 0))
+
+module _ (d : Drive) (cmd : List ℕ) (n : ℕ) (en : n ≡ transfer_of cmd) (t : Bool) (et : t ≡ fixed_of cmd) where
+  module _ (s : List ℕ) (z : n ≡ 0 → ⊥) where
+    pub reads_fixed : t ≡ true → reading d cmd (seen_of s) ≡ read_run d (seen_of s) n (run_of d.block_length n (drop d.position (objects s)))
+    unfolding reading seen_of
+    reads_fixed h = rw (← en, ne_eqb n 0 z, ← et, h) refl
+
+    pub reads_variable : t ≡ false → reading d cmd (seen_of s) ≡ read_variable d cmd (seen_of s) (get_elem? (objects s) d.position)
+    unfolding reading seen_of
+    reads_variable h = rw (← en, ne_eqb n 0 z, ← et, h) refl

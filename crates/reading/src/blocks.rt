@@ -75,7 +75,7 @@ fn read_variable(image: &Image, d: Drive, cmd: &[u8], n: u32, received: &mut [u8
     if image.count() <= p {
         return deeds::checked(d, deeds::end_met(image, n, 0), 0);
     }
-    if image.is_filemark(p) {
+    if image.is_filemark(p as usize) {
         return deeds::checked(deeds::at(d, p + 1), deeds::filemark_met(n, 0), 0);
     }
     read_block(d, cmd, n, image.block(p), received)

@@ -1,6 +1,6 @@
 -- The eighteen sense bytes (01, "What each command does": "Sense: ..").
 -- Assumes nothing: these are definitions.
-use Rattle.std.specs.Prelude.{ℕ, ◌+◌, ◌/◌, ◌%◌, ◌≡◌, Bool, false, cond, ◌&&◌, ◌||◌, List, [], ◌∷◌, ◌++◌, Option, Some, None, eqb, ℤ, pos, get_or}
+use Rattle.std.specs.Prelude.{ℕ, ◌+◌, ◌/◌, ◌%◌, ◌≡◌, Bool, false, cond, ◌&&◌, ◌||◌, List, [], ◌∷◌, ◌++◌, Result, Ok, Err, eqb, ℤ, pos, get_or}
 use Rattle.words.specs.Words.{be, bytes, zeros}
 use Rattle.words.specs.Signed.{wrapped, fits32}
 use Rattle.sense.specs.declared.Sense.{Sense}
@@ -143,9 +143,9 @@ told counts filemark eom ili key asc ascq residue = record {
   ascq = ascq;
 }
 
--- what the code has of a residue z: its encoding in 32 bits, where it fits
-abbrev pub Shows : Option ℕ → ℤ → Type 0
-Shows r z = r ≡ cond (fits32 z) (Some (wrapped z)) None
+-- what the code has of a residue z: its encoding in 32 bits, and whether it fits
+abbrev pub Shows : Result ℕ ℕ → ℤ → Type 0
+Shows r z = r ≡ cond (fits32 z) (Ok (wrapped z)) (Err (wrapped z))
 
 -- key, ASC and ASCQ alone
 abbrev pub plainly : ℕ → ℕ → ℕ → Sense

@@ -276,11 +276,19 @@ fn fits_32(request: u32, actual: u32) -> bool
     }
 }
 
-// The residue of a request and an actual that are not below zero: their difference in 32 bits, where 32 signed bits hold it.
-pub fn residue_of(request: u32, actual: u32) -> Option<u32>
+// A residue in 32 bits: `Ok` where 32 signed bits hold it, else `Err`.
+pub type Residue = Result<u32, u32>;
+
+// The residue of a request and an actual that are not below zero: their difference.
+pub fn residue_of(request: u32, actual: u32) -> Residue
     ensures { Shows result (sub_ℕ request actual) }
 {
-    fits_32(request, actual).then_some(words::difference(request, actual))
+    let bits = words::difference(request, actual);
+    if fits_32(request, actual) {
+        Ok(bits)
+    } else {
+        Err(bits)
+    }
 }
 
 // Whether a command that counts, with this key, reports a residue that fits.
@@ -294,11 +302,11 @@ fn reports(key: u8) -> bool
 // What a command tells: VALID and the residue where it reports one. `counts` says that it is READ, WRITE, WRITE FILEMARKS or SPACE: the
 // residue of another command is not looked at.
 #[tactic(auto, unfolding(crate::specs::Sense::told, crate::specs::Sense::reports))]
-pub fn told(counts: bool, flags: Flags, code: Code, residue: Option<u32>) -> Sense
+pub fn told(counts: bool, flags: Flags, code: Code, residue: Residue) -> Sense
     ensures { (z : ℤ) → (counts ≡ true → Shows residue z) → result ≡ told counts flags.filemark flags.eom flags.ili code.key code.asc code.ascq z }
 {
     let reported = if counts && reports(code.key) {
-        residue
+        residue.ok()
     } else {
         None
     };
@@ -318,7 +326,7 @@ pub fn told(counts: bool, flags: Flags, code: Code, residue: Option<u32>) -> Sen
 pub fn plainly(code: Code) -> [u8; SENSE_LENGTH]
     ensures { result ≡ sense_bytes (plainly code.key code.asc code.ascq) }
 {
-    told(false, Flags::NONE, code, None).into()
+    told(false, Flags::NONE, code, Ok(0)).into()
 }
 
 // The empty sense.

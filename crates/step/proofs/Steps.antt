@@ -39,7 +39,7 @@ none_needed : (t : Bool) (n : ℕ) → t && eqb n 0 ≡ false → n ≡ 0 → t 
 none_needed true n e h = rw h at e
 none_needed false n e h = refl
 
-outcomes : {a a' : Answer} {d d' : Drive} {p p' q q' r r' : List ℕ} (cmd sent : List ℕ) → a ≡ a' → d ≡ d' → p ≡ p' → q ≡ q' → r ≡ r' → outcome a d (lent cmd p q sent r) ≡ outcome a' d' (lent cmd p' q' sent r')
+pub outcomes : {a a' : Answer} {d d' : Drive} {p p' q q' r r' : List ℕ} (cmd sent : List ℕ) → a ≡ a' → d ≡ d' → p ≡ p' → q ≡ q' → r ≡ r' → outcome a d (lent cmd p q sent r) ≡ outcome a' d' (lent cmd p' q' sent r')
 outcomes {a} {a'} {d} {d'} {p} {p'} {q} {q'} {r} {r'} cmd sent ea ed ep eq er = λ i. outcome (ea i) (ed i) (lent cmd (ep i) (eq i) sent (er i))
 
 either_way : (t : Bool) (p q : List ℕ) → p ≡ q → p ≡ cond t p q

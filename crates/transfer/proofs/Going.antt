@@ -107,23 +107,24 @@ module _ {S : Type 0} (steps : S → Option Object → S → Type 0) where
         go [] a w = ends p os s (p + k) t w
         go (o ∷ rest) a w = absurd (a.0.0 j h)
 
-    module _ (x : Object) (h : steps i (Some x) j) where
-      pub gives_stop : fits t (p + k) (length (data_of (object_of x))) ≡ false → Gone p os s (p + k) t
-      gives_stop f = go g.rest g.offered g.going
+    -- n is the number, and m the length, that the code comes to
+    module _ (x : Object) (h : steps i (Some x) j) (n m : ℕ) (number : n ≡ p + k) (long : m ≡ length (data_of (object_of x))) where
+      pub gives_stop : (r : Bool) → r ≡ fits t n m → r ≡ false → Gone p os s (p + k) t
+      gives_stop r d f = go g.rest g.offered g.going
         where
           go : (rest : List O.Object) → Offers steps i rest → Going p os s (p + k) rest t → Gone p os s (p + k) t
           go [] a w = absurd (a.0 x j h)
-          go (o ∷ rest) a w = stops p os s (p + k) (object_of x) rest t (rw (a.0.1 x j h).0 w) f
+          go (o ∷ rest) a w = stops p os s (p + k) (object_of x) rest t (rw (a.0.1 x j h).0 w) (rw (← number, ← long, ← d) f)
 
-      pub gives_turn : fits t (p + k) (length (data_of (object_of x))) ≡ true → Giving p os s (k + 1) j (occur (put (p + k) (object_of x)) t)
+      pub gives_turn : (r : Bool) → r ≡ fits t n m → r ≡ true → (l : ℕ) → l ≡ p + k → Giving p os s (k + 1) j (occur (put l (object_of x)) t)
       unfolding AllHoldable
-      gives_turn f = go g.rest g.offered g.going
+      gives_turn r d f l place = go g.rest g.offered g.going
         where
           z : p + (k + 1) ≡ p + k + 1
           z = omega arith
 
-          go : (rest : List O.Object) → Offers steps i rest → Going p os s (p + k) rest t → Giving p os s (k + 1) j (occur (put (p + k) (object_of x)) t)
+          go : (rest : List O.Object) → Offers steps i rest → Going p os s (p + k) rest t → Giving p os s (k + 1) j (occur (put l (object_of x)) t)
           go [] a w = absurd (a.0 x j h)
           go (o ∷ rest) a w =
               let e = a.0.1 x j h in
-              record { rest = rest; offered = (e.1, a.1.1); going = rw z (turn p os s (p + k) (object_of x) rest t (rw e.0 w) (rw e.0 a.1.0) f) }
+              record { rest = rest; offered = (e.1, a.1.1); going = rw (z, place) (turn p os s (p + k) (object_of x) rest t (rw e.0 w) (rw e.0 a.1.0) (rw (← number, ← long, ← d) f)) }

@@ -15,7 +15,7 @@ use denote.Param.Members.{Mut}
 use Rattle.objects.specs.Object as O
 use Rattle.objects.specs.Transfer.{blocks_of, marks_of}
 use Rattle.changes.specs.declared.events.Object.{Object}
-use Rattle.changes.specs.declared.events.Object.TheVariants.{Filemark, Block}
+use Rattle.changes.specs.declared.events.Object.TheVariants.{Filemark}
 use Rattle.changes.specs.Object.{object_of}
 
 pub marks_yielded : (n : ℕ) (it : RepeatN Object) → repeat_n_item it ≡ Filemark → repeat_n_count it ≡ n → AlwaysYields (repeat_n_steps (λ x y. y ≡ x)) object_of it (marks_of n)
@@ -23,8 +23,9 @@ unfolding marks_of
 marks_yielded zero it e h = λ x j st. omega (arith, st.1.1)
 marks_yielded (suc n) it e h = (λ j st. omega (arith, st.1.0), λ x j st. (ap object_of (st.1.0 ∙ e), marks_yielded n j (st.0 ∙ e) (omega (arith, st.1.1))))
 
-module _ {F : Type 0} (g : Mut F (Bor (List ℕ) × Unit {0}) Object) (f : F) (makes : (y : Bor (List ℕ)) (r : Object) (h : F) → Called g f (y, tt) r h → (h ≡ f) × (r ≡ Block y)) where
-  pub blocks_yielded : (b n : ℕ) (x : List ℕ) (it : Map (Take (ChunksExact ℕ)) F) → map_callee it ≡ f → take_count (map_source it) ≡ n
+-- the callee is such that it makes a block of what it gets, and stays so
+module _ {F : Type 0} (g : Mut F (Bor (List ℕ) × Unit {0}) Object) (good : F → Type 0) (makes : (f : F) (y : Bor (List ℕ)) (r : Object) (h : F) → good f → Called g f (y, tt) r h → good h × (object_of r ≡ O.block y.now)) where
+  pub blocks_yielded : (b n : ℕ) (x : List ℕ) (it : Map (Take (ChunksExact ℕ)) F) → good (map_callee it) → take_count (map_source it) ≡ n
       → chunks_exact_size (take_source (map_source it)) ≡ b → chunks_exact_rest (take_source (map_source it)) ≡ x → n * b ≤ length x
       → AlwaysYields (map_steps (take_steps chunks_exact_steps) g) object_of it (blocks_of b n x)
   unfolding blocks_of
@@ -32,11 +33,11 @@ module _ {F : Type 0} (g : Mut F (Bor (List ℕ) × Unit {0}) Object) (f : F) (m
   blocks_yielded b (suc n) x it e c z s h = (
     λ j st. omega (arith, suc-mul n b, ap length s, (st.0 (omega arith)).1.0),
     λ r j (y, (d, k), w).
-        let v = makes y r (map_callee j) (rw e at w) in
+        let v = makes (map_callee it) y r (map_callee j) e w in
         let l : length y.now ≡ b = d.1.1 ∙ z in
         let a = sym s ∙ d.1.0 in
         let u = ap (drop b) a ∙ drop_at y.now _ b l in (
-          ap object_of v.1 ∙ ap O.block (sym (ap (take b) a ∙ take_at y.now _ b l)),
+          v.1 ∙ ap O.block (sym (ap (take b) a ∙ take_at y.now _ b l)),
           blocks_yielded b n (drop b x) j v.0 (omega arith) (d.0 ∙ z) (sym u) (omega (arith, suc-mul n b, length-drop b x)),
         ),
   )

@@ -40,7 +40,9 @@ pub fn put_filemarks(s: &mut [u8], p: u32, n: u32) -> u32
     put_objects(s, p, repeat_n(Object::Filemark, n as usize))
 }
 
-// Puts n blocks of b bytes each from number p on, from the bytes sent, while each fits; answers how many went down.
+// Puts n blocks of b bytes each from number p on, from the bytes sent, while each fits; answers how many went down. Out of line,
+// so that its loop has the registers to itself.
+#[inline(never)]
 pub fn put_blocks(s: &mut [u8], p: u32, n: u32, b: u32, sent: &[u8]) -> u32
     requires { (sound s.old ≡ true) × (p ≤ count s.old) × (1 ≤ b) × (b ≤ largest_block) × (n * b ≤ length sent.now) }
     ensures { (s.new ≡ occurs (put_from p (fitting (length s.old) p (end_at s.old p) (blocks_of b n sent.now))) s.old) × (result ≡ length (fitting (length s.old) p (end_at s.old p) (blocks_of b n sent.now))) }

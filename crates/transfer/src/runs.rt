@@ -24,7 +24,9 @@ pub struct Blocks {
     pub why: Ended,
 }
 
-// Reads n blocks of b bytes each from number p on, one behind the other from the start of `received`.
+// Reads n blocks of b bytes each from number p on, one behind the other from the start of `received`. Out of line, so that its
+// loop has the registers to itself.
+#[inline(never)]
 pub fn read_blocks(image: &Image, p: u32, n: u32, b: u32, received: &mut [u8]) -> Blocks
     requires { (p ≤ count image.now.bytes) × (1 ≤ b) × (n * b ≤ length received.old) }
     ensures { (run_with result (run_of b n (drop p (objects image.now.bytes))).bytes ≡ run_of b n (drop p (objects image.now.bytes)))
@@ -40,7 +42,7 @@ pub fn read_blocks(image: &Image, p: u32, n: u32, b: u32, received: &mut [u8]) -
                 why: Ended::AtEnd,
             };
         }
-        if image.is_filemark(at) {
+        if image.is_filemark(at as usize) {
             return Blocks {
                 blocks: done,
                 crossed: done + 1,

@@ -115,27 +115,34 @@ module _ {c : Code} {n : ℕ} {ys : List Object} {k left : ℕ} (a : Along c n y
     ahead_is : drop k ys ≡ nearest ∷ rest
     ahead_is = drop_more ys k filemark h
 
-    -- the nearest object is counted, or ends the walk, or is passed
-    pub counted : counts c (is_filemark nearest) ≡ true → Along c n ys (k + 1) (left - 1)
-    counted e = record {
-      fewer = omega (arith, a.fewer);
-      same = a.same
-          ∙ ap (λ (w : Walk). further k (n - left) w) (ap (walk c left) ahead_is ∙ walk_counts rest c left nearest e l)
-          ∙ further_counting k (n - left) (walk c (left - 1) rest)
-          ∙ rw ((let z : suc (n - left) ≡ n - (left - 1) = omega (arith, a.fewer) in z), (let z : suc k ≡ k + 1 = omega arith in z)) refl;
-    }
+    -- the nearest object is counted, or ends the walk, or is passed; x is whether it is a filemark, and v whether it is counted, as
+    -- the code finds them
+    module _ (x v : Bool) (kind : is_filemark nearest ≡ x) (found : v ≡ counts c x) where
+      counts_so : (t : Bool) → v ≡ t → counts c (is_filemark nearest) ≡ t
+      counts_so t e = ap (counts c) kind ∙ sym found ∙ e
 
-    pub ends_marked : counts c (is_filemark nearest) ≡ false → is_filemark nearest ≡ true → record { crossed = k + 1; counted = n - left; why = marked } ≡ walk c n ys
-    ends_marked d e = ends 1 marked (ap (walk c left) ahead_is ∙ walk_stops rest c left nearest d e l)
+      pub counted : v ≡ true → Along c n ys (k + 1) (left - 1)
+      counted e = record {
+        fewer = omega (arith, a.fewer);
+        same = a.same
+            ∙ ap (λ (w : Walk). further k (n - left) w) (ap (walk c left) ahead_is ∙ walk_counts rest c left nearest (counts_so true e) l)
+            ∙ further_counting k (n - left) (walk c (left - 1) rest)
+            ∙ rw ((let z : suc (n - left) ≡ n - (left - 1) = omega (arith, a.fewer) in z), (let z : suc k ≡ k + 1 = omega arith in z)) refl;
+      }
 
-    pub passed : counts c (is_filemark nearest) ≡ false → is_filemark nearest ≡ false → Along c n ys (k + 1) left
-    passed d e = record {
-      fewer = a.fewer;
-      same = a.same
-          ∙ ap (λ (w : Walk). further k (n - left) w) (ap (walk c left) ahead_is ∙ walk_passes rest c left nearest d e l)
-          ∙ further_uncounted k (n - left) (walk c left rest)
-          ∙ rw (let z : suc k ≡ k + 1 = omega arith in z) refl;
-    }
+      pub ends_marked : v ≡ false → x ≡ true → (m : ℕ) → m ≡ k + 1 → record { crossed = m; counted = n - left; why = marked } ≡ walk c n ys
+      ends_marked d e m z =
+          (λ i. record { crossed = z i; counted = n - left; why = marked })
+          ∙ ends 1 marked (ap (walk c left) ahead_is ∙ walk_stops rest c left nearest (counts_so false d) (kind ∙ e) l)
+
+      pub passed : v ≡ false → x ≡ false → Along c n ys (k + 1) left
+      passed d e = record {
+        fewer = a.fewer;
+        same = a.same
+            ∙ ap (λ (w : Walk). further k (n - left) w) (ap (walk c left) ahead_is ∙ walk_passes rest c left nearest (counts_so false d) (kind ∙ e) l)
+            ∙ further_uncounted k (n - left) (walk c left rest)
+            ∙ rw (let z : suc k ≡ k + 1 = omega arith in z) refl;
+      }
 
 -- ---- the code's numbers: all is how many objects the image has, far how many of them lie ahead of p, i the number of the k-th
 

@@ -63,7 +63,8 @@ pub trait Direction {
         requires { p ≤ count }
         ensures { result ≡ reach p count };
 
-    fn number(p: u32, count: u32, k: u32) -> u32
+    // In the width of an index, so that a loop over k steps through the directory.
+    fn number(p: u32, count: u32, k: u32) -> usize
         requires { k < reach p count }
         ensures { result ≡ number p count k };
 }
@@ -84,8 +85,8 @@ impl Direction for On {
         count - p
     }
 
-    fn number(p: u32, _count: u32, k: u32) -> u32 {
-        p + k
+    fn number(p: u32, _count: u32, k: u32) -> usize {
+        p as usize + k as usize
     }
 }
 
@@ -105,8 +106,8 @@ impl Direction for Back {
         p
     }
 
-    fn number(p: u32, _count: u32, k: u32) -> u32 {
-        p - (k + 1)
+    fn number(p: u32, _count: u32, k: u32) -> usize {
+        p as usize - (k as usize + 1)
     }
 }
 

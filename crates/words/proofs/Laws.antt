@@ -87,6 +87,15 @@ unfolding be
 be_lt zero s at h = omega arith
 be_lt (suc n) s at h = rw (pow-suc 256 n) (omega (arith, be_lt n s at h, h (at + n)))
 
+-- a number of m + n bytes is one of m bytes above one of n
+pub be_split : (m n : ℕ) (s : List ℕ) (at : ℕ) → be (m + n) s at ≡ be m s at * 256 ^ n + be n s (at + m)
+unfolding be
+be_split m zero s at = rw (add-zero m) (omega arith)
+be_split m (suc n) s at = rw (add-suc m n) (
+    let e : at + (m + n) ≡ at + m + n = omega arith in
+    let p : be m s at * 256 ^ suc n ≡ be m s at * 256 ^ n * 256 = ap (λ (k : ℕ). be m s at * k) (pow-suc 256 n) ∙ sym (mul_assoc (be m s at) (256 ^ n) 256) in
+    ap₂ (λ (a b : ℕ). a * 256 + get_or s b 0) (be_split m n s at) e ∙ omega (arith, p))
+
 -- the bytes of a number are those of its upper part, then those of its lower
 pub bytes_split : (m n v : ℕ) → bytes (m + n) v ≡ bytes m (v / 256 ^ n) ++ bytes n v
 unfolding bytes

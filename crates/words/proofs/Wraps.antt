@@ -1,7 +1,10 @@
 -- The wrapping subtraction is the encoding of the signed difference, for numbers and for encoded integers alike; a count
 -- that fits is read back, an integer from its 32 bits, and from these extended to 64.
 -- Assumes nothing.
-use Rattle.std.proofs.Common.{◌≡◌, ℕ, zero, suc, ◌+◌, ◌-◌, ◌%◌, ◌^◌, ◌<◌, ◌≤◌, Bool, true, false, cond, ltb, ℤ, pos, negsuc, ◌-ℤ◌, sym, refl, ap, ◌∙◌, arith, ltb-false, ltb-true, le-ltb, lt-ltb}
+use Rattle.std.proofs.Common.{◌≡◌, ℕ, zero, suc, ◌+◌, ◌-◌, ◌%◌, ◌^◌, ◌<◌, ◌≤◌, Bool, true, false, cond, ltb, ℤ, pos, negsuc, ◌-ℤ◌, sym, refl, ap, ◌∙◌, zero-add, arith, to_z-of_z, SFits, to_z, of_z, ltb-false, ltb-true, le-ltb, lt-ltb}
+use mir.Syntax.{Width}
+use mir.Val.{hbits}
+use mir.Facts.{to_z_pos}
 use lib.IntN.{sub_ℕ}
 use Rattle.words.specs.Signed.{signed, wrapped, fits32, extended}
 
@@ -44,6 +47,23 @@ signed_low half x h = rw (lt-ltb x half h) refl
 pub signed_high : (half x : ℕ) → half ≤ x → signed half x ≡ negsuc (half + half - suc x)
 unfolding signed
 signed_high half x h = rw (le-ltb x half h) refl
+
+-- a count of w bits or fewer, read in w bits: below the half it is itself, from there on -1 less what is missing to all ones
+pub read_low : (w : Width) (half x : ℕ) → x < half → half ≤ 2 ^ hbits w → to_z w x ≡ signed half x
+read_low w half x h k = to_z_pos w (omega arith) ∙ sym (signed_low half x h)
+
+below : (k : ℕ) → negsuc 0 -ℤ pos k ≡ negsuc k
+below zero = refl
+below (suc k) = rw (zero-add k) refl
+
+pub missing : (w : Width) (k : ℕ) → k < 2 ^ hbits w → negsuc 0 -ℤ to_z w k ≡ negsuc k
+missing w k h = ap (λ (z : ℤ). negsuc 0 -ℤ z) (to_z_pos w h) ∙ below k
+
+pub missing_fits : (w : Width) (k : ℕ) → k < 2 ^ hbits w → SFits w (negsuc 0 -ℤ to_z w k)
+missing_fits w k h = rw (missing w k h) (record { sfits = h })
+
+pub read_high : (w : Width) (half x k : ℕ) → k ≡ half + half - suc x → half ≤ x → k < 2 ^ hbits w → to_z w (of_z w (negsuc 0 -ℤ to_z w k)) ≡ signed half x
+read_high w half x k e h l = to_z-of_z {w = w} (missing_fits w k l) ∙ missing w k l ∙ ap negsuc e ∙ sym (signed_high half x h)
 
 -- ---- an integer in 32 bits, and back
 

@@ -7,7 +7,7 @@ pub fn array_at<const N: usize>(s: &[u8], at: usize) -> [u8; N]
     requires { at + N ≤ length s.now }
     ensures { result ≡ take N (drop at s.now) }
 {
-    *s[at..].first_chunk().unwrap()
+    s[at..at + N].try_into().unwrap()
 }
 
 // The three bytes at `at`.

@@ -2,13 +2,14 @@
 ghost use Rattle.std.specs.Prelude.{◌≡◌, ◌+◌, ◌-◌, ◌≤◌, length};
 ghost use Rattle.words.specs.Words.{over, zeros, limited};
 
-// Copies all of src into s from `at` on.
-#[tactic(auto, unfolding(crate::specs::Words::over))]
+// Copies all of src into s from `at` on. A loop, since `copy_from_slice` would have the archive ask for `memmove`.
 pub fn copy_at(s: &mut [u8], at: usize, src: &[u8])
     requires { at + length src.now ≤ length s.old }
     ensures { s.new ≡ over s.old at src.now }
 {
-    s[at..at + src.len()].copy_from_slice(src);
+    for i in 0..src.len() {
+        s[at + i] = src[i];
+    }
 }
 
 // Zeroes s from `from` up to, not including, `to`.
@@ -20,7 +21,9 @@ pub fn clear_at(s: &mut [u8], from: usize, to: usize)
     s[from..to].fill(0);
 }
 
-// Copies src to the start of s, cut at an allocation length, and answers how many bytes that were.
+// Copies src to the start of s, cut at an allocation length, and answers how many bytes that were. Out of line, its loop is
+// compiled alike for every caller.
+#[inline(never)]
 pub fn copy_limited(s: &mut [u8], src: &[u8], allocation: usize) -> usize
     requires { length (limited allocation src.now) ≤ length s.old }
     ensures { (s.new ≡ over s.old 0 (limited allocation src.now)) × (result ≡ length (limited allocation src.now)) }

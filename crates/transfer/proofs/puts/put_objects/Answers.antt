@@ -16,7 +16,7 @@ pub loop-object-preserved : goal.loop-object-preserved
 loop-object-preserved g c = record {
   can = search rules;
   ends = search rules;
-  gives = λ list a. rw c.put.ensures (gives_turn _ _ (c.loop-object.invariant.gives list a) _ c.in-Some.ensures.steps (cc));
+  gives = λ list a. rw c.put.ensures (gives_turn _ _ (c.loop-object.invariant.gives list a) _ c.in-Some.ensures.steps _ _ (search rules) (search rules) _ c.object_fits.ensures c.if-not-object_fits.false _ (search rules));
 }
 
 pub returns : goal.returns
@@ -24,6 +24,6 @@ returns g c = λ list a.
     let w = c.loop-object.invariant.gives list a in
     let e : Gone c.args.p list c.args.s.now (c.args.p + c.loop-object.done) c.loop-object.s = elim c.match-next.branch [
       | in-None v ↦ gives_end _ _ w v.in-None.ensures.steps
-      | in-Some+then-not-object_fits v ↦ gives_stop _ _ w _ v.in-Some.ensures.steps (cc)
+      | in-Some+then-not-object_fits v ↦ gives_stop _ _ w _ v.in-Some.ensures.steps _ _ (search rules) (search rules) _ v.object_fits.ensures v.if-not-object_fits.true
     ] in
     (e.image, omega arith)
