@@ -2,14 +2,13 @@
 -- Assumes nothing.
 use Rattle.std.specs.Fn.{Called}
 use Rattle.std.specs.Iterator.{AlwaysYields}
-use Rattle.std.specs.Iterator.Adapters.{repeat_n_item, repeat_n_count, repeat_n_steps, map_source, map_callee, map_steps, take_source, take_count, take_steps}
+use Rattle.std.specs.Iterator.Adapters.{repeat_n_item, repeat_n_count, repeat_n_steps, map_source, map_callee, map_steps}
 use Rattle.std.specs.Slice.Iter.{chunks_exact_rest, chunks_exact_size, chunks_exact_steps}
 use Rattle.std.specs.declared.iter.RepeatN.{RepeatN}
 use Rattle.std.specs.declared.iter.Map.{Map}
-use Rattle.std.specs.declared.iter.Take.{Take}
 use Rattle.std.specs.declared.slice.ChunksExact.{ChunksExact}
-use Rattle.std.proofs.Common.{◌≡◌, ℕ, zero, suc, ◌*◌, ◌≤◌, List, length, take, drop, Bor, arith, sym, ap, ◌∙◌, length-drop}
-use Rattle.std.proofs.lemmas.List.{take_at, drop_at}
+use Rattle.std.proofs.Common.{◌≡◌, ℕ, zero, suc, ◌+◌, ◌*◌, ◌≤◌, List, length, take, drop, Bor, arith, sym, ap, ◌∙◌, length-drop, length-append}
+use Rattle.std.proofs.lemmas.List.{take_at, drop_at, take-take, drop-take, length-take-le}
 use native.Mathlib.Nat.{suc-mul}
 use denote.Param.Members.{Mut}
 use Rattle.objects.specs.Object as O
@@ -25,19 +24,24 @@ marks_yielded (suc n) it e h = (λ j st. omega (arith, st.1.0), λ x j st. (ap o
 
 -- the callee is such that it makes a block of what it gets, and stays so
 module _ {F : Type 0} (g : Mut F (Bor (List ℕ) × Unit {0}) Object) (good : F → Type 0) (makes : (f : F) (y : Bor (List ℕ)) (r : Object) (h : F) → good f → Called g f (y, tt) r h → good h × (object_of r ≡ O.block y.now)) where
-  pub blocks_yielded : (b n : ℕ) (x : List ℕ) (it : Map (Take (ChunksExact ℕ)) F) → good (map_callee it) → take_count (map_source it) ≡ n
-      → chunks_exact_size (take_source (map_source it)) ≡ b → chunks_exact_rest (take_source (map_source it)) ≡ x → n * b ≤ length x
-      → AlwaysYields (map_steps (take_steps chunks_exact_steps) g) object_of it (blocks_of b n x)
+  pub blocks_yielded : (b n : ℕ) (x : List ℕ) (it : Map (ChunksExact ℕ) F) → good (map_callee it) → 1 ≤ b → chunks_exact_size (map_source it) ≡ b
+      → chunks_exact_rest (map_source it) ≡ take (n * b) x → n * b ≤ length x → AlwaysYields (map_steps chunks_exact_steps g) object_of it (blocks_of b n x)
   unfolding blocks_of
-  blocks_yielded b zero x it e c z s h = λ r j st. omega (arith, st.1.0.1)
-  blocks_yielded b (suc n) x it e c z s h = (
-    λ j st. omega (arith, suc-mul n b, ap length s, (st.0 (omega arith)).1.0),
-    λ r j (y, (d, k), w).
-        let v = makes (map_callee it) y r (map_callee j) e w in
-        let l : length y.now ≡ b = d.1.1 ∙ z in
-        let a = sym s ∙ d.1.0 in
-        let u = ap (drop b) a ∙ drop_at y.now _ b l in (
-          v.1 ∙ ap O.block (sym (ap (take b) a ∙ take_at y.now _ b l)),
-          blocks_yielded b n (drop b x) j v.0 (omega arith) (d.0 ∙ z) (sym u) (omega (arith, suc-mul n b, length-drop b x)),
-        ),
-  )
+  blocks_yielded b zero x it e o z s h = λ r j st.
+      let whole = ap length s ∙ length-take-le (zero * b) x h in
+      let parts = ap length st.1.1.0 ∙ length-append st.0.now (chunks_exact_rest (map_source j)) in
+      omega (arith, whole, parts, st.1.1.1, z, o)
+  blocks_yielded b (suc n) x it e o z s h =
+      let m : suc n * b ≡ b + n * b = omega (arith, suc-mul n b) in
+      let whole = ap length s ∙ length-take-le (suc n * b) x h in (
+        λ j st. omega (arith, m, whole, st.0.1.0, z),
+        λ r j (y, d, w).
+            let v = makes (map_callee it) y r (map_callee j) e w in
+            let l : length y.now ≡ b = d.1.1 ∙ z in
+            let a = ap (λ k. take k x) (sym m) ∙ sym s ∙ d.1.0 in
+            let u = ap (drop b) a ∙ drop_at y.now _ b l in
+            let t = sym (take-take b (b + n * b) x (omega arith)) ∙ ap (take b) a ∙ take_at y.now _ b l in (
+              v.1 ∙ ap O.block (sym t),
+              blocks_yielded b n (drop b x) j v.0 o (d.0 ∙ z) (sym u ∙ drop-take b (n * b) x) (omega (arith, m, length-drop b x)),
+            ),
+      )

@@ -47,6 +47,6 @@ pub fn put_blocks(s: &mut [u8], p: u32, n: u32, b: u32, sent: &[u8]) -> u32
     requires { (sound s.old ≡ true) × (p ≤ count s.old) × (1 ≤ b) × (b ≤ largest_block) × (n * b ≤ length sent.now) }
     ensures { (s.new ≡ occurs (put_from p (fitting (length s.old) p (end_at s.old p) (blocks_of b n sent.now))) s.old) × (result ≡ length (fitting (length s.old) p (end_at s.old p) (blocks_of b n sent.now))) }
 {
-    let blocks = sent.chunks_exact(b as usize).take(n as usize);
+    let blocks = sent[..n as usize * b as usize].chunks_exact(b as usize);
     put_objects(s, p, blocks.map(Object::Block))
 }

@@ -17,7 +17,7 @@ put_objects-requires c κs =
           search rules,
           (
             blocks_of c.args.b c.args.n c.args.sent.now,
-            (blocks_yielded _ (λ f. Unit {0}) (λ f x r h u k. (tt, search (rules, take_all))) _ _ _ _ tt (search rules) (search rules) (search rules) q.4, blocks_kept _ _ _ q.2 q.3 q.4),
+            (blocks_yielded _ (λ f. Unit {0}) (λ f x r h u k. (tt, search (rules, take_all))) _ _ _ _ tt q.2 (search rules) (search rules) q.4, blocks_kept _ _ _ q.2 q.3 q.4),
           ),
         ),
       ),
@@ -27,4 +27,4 @@ pub returns : goal.returns
 returns c =
     let q = c.requires in
     c.put_objects.ensures (blocks_of c.args.b c.args.n c.args.sent.now)
-    (blocks_yielded _ (λ f. Unit {0}) (λ f x r h u k. (tt, search (rules, take_all))) _ _ _ _ tt (search rules) (search rules) (search rules) q.4, blocks_kept _ _ _ q.2 q.3 q.4)
+    (blocks_yielded _ (λ f. Unit {0}) (λ f x r h u k. (tt, search (rules, take_all))) _ _ _ _ tt q.2 (search rules) (search rules) q.4, blocks_kept _ _ _ q.2 q.3 q.4)
