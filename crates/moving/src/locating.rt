@@ -13,7 +13,7 @@ use deeds::Left;
 use image::Image;
 use kinds::{BY_END, BY_FILE};
 use record::Drive;
-use walks::{Counted, On, Why, walk};
+use walks::{Counted, On, Why, walk_by_index};
 
 // The drive at position n of partition k.
 fn at_partition(d: Drive, k: u8, n: u32) -> Drive
@@ -52,7 +52,7 @@ fn locate_object(image: &Image, d: Drive, target: u8, n: u64) -> Left
 fn locate_file(image: &Image, d: Drive, target: u8, n: u64) -> Left
     ensures { result ≡ left_by (locating d target (file n) (seen_of image.now.bytes)) }
 {
-    let w = walk::<On>(image, 0, Counted::Filemarks, bounded(n));
+    let w = walk_by_index::<On>(image, 0, Counted::Filemarks, bounded(n));
     match w.why {
         // Over filemarks none is crossed that is not counted, so no walk ends at one.
         Why::Done | Why::Marked => {

@@ -15,7 +15,7 @@ use image::Image;
 use kinds::{OVER_BLOCKS, TO_END};
 use record::Drive;
 use sense::{PAST_32_BITS, Residue, Sense};
-use walks::{Back, Counted, On, Why, walk};
+use walks::{Back, Counted, On, Why, walk_by_index};
 
 // GOOD there, with so many objects crossed.
 fn reaches(there: Drive, crossed: u32) -> Left
@@ -37,7 +37,7 @@ fn space_on(image: &Image, d: Drive, what: Counted, n: u32) -> Left
     requires { d.position ≤ count image.now.bytes }
     ensures { result ≡ left_by (moved d (seen_of image.now.bytes) (pos n) (space (code_of what) (pos n) d.position (objects image.now.bytes))) }
 {
-    let w = walk::<On>(image, d.position, what, n);
+    let w = walk_by_index::<On>(image, d.position, what, n);
     let gone = deeds::at(d, d.position + w.crossed);
     match w.why {
         Why::Done => reaches(gone, w.crossed),
@@ -65,7 +65,7 @@ fn space_back(image: &Image, d: Drive, what: Counted, n: u32) -> Left
     requires { (d.position ≤ count image.now.bytes) × (0 < n) }
     ensures { result ≡ left_by (moved d (seen_of image.now.bytes) (neg_ℤ (pos n)) (space (code_of what) (neg_ℤ (pos n)) d.position (objects image.now.bytes))) }
 {
-    let w = walk::<Back>(image, d.position, what, n);
+    let w = walk_by_index::<Back>(image, d.position, what, n);
     let gone = deeds::at(d, d.position - w.crossed);
     let rest = residue_back(n, w.counted);
     match w.why {

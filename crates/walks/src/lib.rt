@@ -10,6 +10,7 @@ ghost use Rattle.walks.specs.Directions.{DirectionLaws, ahead_on, reach_on, numb
 ghost use Rattle.walks.specs.Laws.{on_laws, back_laws};
 
 use image::Image;
+use std::marker::PhantomData;
 
 // What a walk counts. Over blocks a filemark ends it; over filemarks blocks are passed.
 #[derive(Clone, Copy, Debug, PartialEq, Eq)]
@@ -63,10 +64,16 @@ pub trait Direction {
         requires { p ≤ count }
         ensures { result ≡ reach p count };
 
-    // In the width of an index, so that a loop over k steps through the directory.
-    fn number(p: u32, count: u32, k: u32) -> usize
+    fn number(p: u32, count: u32, k: u32) -> u32
         requires { k < reach p count }
         ensures { result ≡ number p count k };
+}
+
+// A direction that makes the number in the width of an index, so that a walk steps through the directory.
+pub trait Indexed: Direction {
+    fn number_as_index(p: u32, count: u32, k: u32) -> usize
+        requires { k < Self.reach p count }
+        ensures { result ≡ Self.number p count k };
 }
 
 // From a position to end of data.
@@ -85,7 +92,13 @@ impl Direction for On {
         count - p
     }
 
-    fn number(p: u32, _count: u32, k: u32) -> usize {
+    fn number(p: u32, count: u32, k: u32) -> u32 {
+        On::number_as_index(p, count, k) as u32
+    }
+}
+
+impl Indexed for On {
+    fn number_as_index(p: u32, _count: u32, k: u32) -> usize {
         p as usize + k as usize
     }
 }
@@ -106,14 +119,20 @@ impl Direction for Back {
         p
     }
 
-    fn number(p: u32, _count: u32, k: u32) -> usize {
+    fn number(p: u32, count: u32, k: u32) -> u32 {
+        Back::number_as_index(p, count, k) as u32
+    }
+}
+
+impl Indexed for Back {
+    fn number_as_index(p: u32, _count: u32, k: u32) -> usize {
         p as usize - (k as usize + 1)
     }
 }
 
 // The walk of one kind: where it is called `what` is a constant, so no turn of the loop tests it.
 #[inline(always)]
-fn walk_over<W: Direction>(image: &Image, p: u32, what: Counted, n: u32) -> Walked
+fn walk_over<W: Indexed>(image: &Image, p: u32, what: Counted, n: u32) -> Walked
     requires { p ≤ count image.now.bytes }
     ensures { walk_of result ≡ walk (code_of what) n (W.ahead p (objects image.now.bytes)) }
 {
@@ -128,7 +147,7 @@ fn walk_over<W: Direction>(image: &Image, p: u32, what: Counted, n: u32) -> Walk
                 why: Why::Done,
             };
         }
-        let is_filemark = image.is_filemark(W::number(p, count, k));
+        let is_filemark = image.is_filemark(W::number_as_index(p, count, k));
         if what.counts(is_filemark) {
             left -= 1;
         } else if is_filemark {
@@ -148,12 +167,124 @@ fn walk_over<W: Direction>(image: &Image, p: u32, what: Counted, n: u32) -> Walk
 
 // From p over n of what is counted. Out of line, its loops are compiled alike for every caller.
 #[inline(never)]
-pub fn walk<W: Direction>(image: &Image, p: u32, what: Counted, n: u32) -> Walked
+pub fn walk_by_index<W: Indexed>(image: &Image, p: u32, what: Counted, n: u32) -> Walked
     requires { p ≤ count image.now.bytes }
     ensures { walk_of result ≡ walk (code_of what) n (W.ahead p (objects image.now.bytes)) }
 {
     match what {
         Counted::Blocks => walk_over::<W>(image, p, Counted::Blocks, n),
         Counted::Filemarks => walk_over::<W>(image, p, Counted::Filemarks, n),
+    }
+}
+
+// A direction by itself, with its number widened to an index.
+struct Widened<W> {
+    direction: PhantomData<W>,
+}
+
+impl<W: Direction> Direction for Widened<W> {
+    ghost ahead = { W.ahead };
+
+    ghost reach = { W.reach };
+
+    ghost number = { W.number };
+
+    ghost laws = { W.laws };
+
+    fn reach(p: u32, count: u32) -> u32 {
+        W::reach(p, count)
+    }
+
+    fn number(p: u32, count: u32, k: u32) -> u32 {
+        W::number(p, count, k)
+    }
+}
+
+impl<W: Direction> Indexed for Widened<W> {
+    fn number_as_index(p: u32, count: u32, k: u32) -> usize {
+        W::number(p, count, k) as usize
+    }
+}
+
+// From p over n of what is counted, in any direction.
+pub fn walk<W: Direction>(image: &Image, p: u32, what: Counted, n: u32) -> Walked
+    requires { p ≤ count image.now.bytes }
+    ensures { walk_of result ≡ walk (code_of what) n (W.ahead p (objects image.now.bytes)) }
+{
+    walk_by_index::<Widened<W>>(image, p, what, n)
+}
+
+#[cfg(test)]
+mod tests {
+    use super::*;
+    use image::is_sound;
+    use std::test::Fail;
+
+    // The direction of `On`, by an `impl` of `Direction` alone.
+    struct Onward;
+
+    impl Direction for Onward {
+        ghost ahead = { ahead_on };
+
+        ghost reach = { reach_on };
+
+        ghost number = { number_on };
+
+        ghost laws = { on_laws };
+
+        fn reach(p: u32, n: u32) -> u32 {
+            n - p
+        }
+
+        fn number(p: u32, _n: u32, k: u32) -> u32 {
+            k + p
+        }
+    }
+
+    // Of ten objects, from position 3: the nearest on and back, and the last each way.
+    #[test]
+    fn numbers(rt: HostRuntime) -> Result<(), Fail> {
+        assert_eq!(rt; On::number(3, 10, 0), 3);
+        assert_eq!(rt; On::number(3, 10, 6), 9);
+        assert_eq!(rt; On::number_as_index(3, 10, 6), 9);
+        assert_eq!(rt; Back::number(3, 10, 0), 2);
+        assert_eq!(rt; Back::number(3, 10, 2), 0);
+        assert_eq!(rt; Back::number_as_index(3, 10, 2), 0);
+        assert_eq!(rt; Onward::number(3, 10, 6), 9);
+        Ok(())
+    }
+
+    // A block of two bytes, a filemark, a block of one byte.
+    #[test]
+    fn walks_alike(rt: HostRuntime) -> Result<(), Fail> {
+        let mut bytes = [0; 64];
+        bytes[39] = 3;
+        bytes[40] = 0x80;
+        bytes[43] = 2;
+        bytes[47] = 2;
+        bytes[51] = 3;
+        bytes[59] = 36;
+        bytes[63] = 64;
+        assert!(rt; is_sound(&bytes));
+        let image = Image::of(&bytes);
+        let end = image.count();
+        assert_eq!(rt; end, 3);
+        let marked = Walked {
+            crossed: 2,
+            counted: 1,
+            why: Why::Marked,
+        };
+        assert_eq!(rt; walk_by_index::<On>(&image, 0, Counted::Blocks, 2), marked);
+        assert_eq!(rt; walk::<On>(&image, 0, Counted::Blocks, 2), marked);
+        assert_eq!(rt; walk::<Onward>(&image, 0, Counted::Blocks, 2), marked);
+        assert_eq!(rt; walk::<Back>(&image, end, Counted::Blocks, 2), marked);
+        let all = Walked {
+            crossed: 3,
+            counted: 1,
+            why: Why::Edge,
+        };
+        assert_eq!(rt; walk::<Onward>(&image, 0, Counted::Filemarks, 2), all);
+        assert_eq!(rt; walk::<Back>(&image, end, Counted::Filemarks, 2), all);
+        Ok(())
     }
 }

@@ -6,7 +6,7 @@ use Rattle.walks.proofs.walk_over.Goals as goal
 use Rattle.walks.proofs.walk_over.Goals.{then-counts, else-counts+else-is_filemark}
 
 pub is_filemark-is_filemark-requires : goal.is_filemark-is_filemark-requires
-is_filemark-is_filemark-requires g c = there g.W.Direction.laws _ _ c.requires _ c.count-count.ensures.0 _ c.reach-reach.ensures _ c.loop-k-test.true _ c.number.ensures
+is_filemark-is_filemark-requires g c = there g.W.Direction.laws _ _ c.requires _ c.count-count.ensures.0 _ c.reach-reach.ensures _ c.loop-k-test.true _ c.number_as_index.ensures
 
 pub loop-k-init : goal.loop-k-init
 loop-k-init g c = starts _ _ _
@@ -18,14 +18,14 @@ pub returns-then-is_filemark : goal.returns-then-is_filemark
 returns-then-is_filemark g c =
     let laws = g.W.Direction.laws in
     let many = so_many laws c.args.image.now.bytes c.args.p c.requires _ c.count-count.ensures.0 _ c.reach-reach.ensures in
-    let kind = read laws c.args.image.now.bytes c.args.p c.requires _ c.count-count.ensures.0 _ c.reach-reach.ensures _ c.loop-k-test.true _ c.number.ensures _ c.is_filemark-is_filemark.ensures in
+    let kind = read laws c.args.image.now.bytes c.args.p c.requires _ c.count-count.ensures.0 _ c.reach-reach.ensures _ c.loop-k-test.true _ c.number_as_index.ensures _ c.is_filemark-is_filemark.ensures in
     ends_marked c.loop-k.invariant (rw many c.loop-k-test.true) (omega arith) _ _ (kind ∙ search rules) c.counts.ensures c.if-counts.false c.if-is_filemark.true _ (search rules)
 
 pub loop-k-preserved : goal.loop-k-preserved
 loop-k-preserved g c =
     let laws = g.W.Direction.laws in
     let many = so_many laws c.args.image.now.bytes c.args.p c.requires _ c.count-count.ensures.0 _ c.reach-reach.ensures in
-    let kind = read laws c.args.image.now.bytes c.args.p c.requires _ c.count-count.ensures.0 _ c.reach-reach.ensures _ c.loop-k-test.true _ c.number.ensures _ c.is_filemark-is_filemark.ensures in
+    let kind = read laws c.args.image.now.bytes c.args.p c.requires _ c.count-count.ensures.0 _ c.reach-reach.ensures _ c.loop-k-test.true _ c.number_as_index.ensures _ c.is_filemark-is_filemark.ensures in
     elim c.if-counts.branch [
       | then-counts w ↦ rw w.left-is (counted c.loop-k.invariant (rw many c.loop-k-test.true) (omega arith) _ _ (kind ∙ search rules) c.counts.ensures w.if-counts.true)
       | else-counts+else-is_filemark w ↦ rw w.left-is (passed c.loop-k.invariant (rw many c.loop-k-test.true) (omega arith) _ _ (kind ∙ search rules) c.counts.ensures w.if-counts.false w.if-is_filemark.false)
