@@ -177,7 +177,7 @@ pub fn walk_by_index<W: Indexed>(image: &Image, p: u32, what: Counted, n: u32) -
     }
 }
 
-// A direction by itself, with its number widened to an index.
+// A direction with its number widened to an index: so `walk` takes one that is not `Indexed`.
 struct Widened<W> {
     direction: PhantomData<W>,
 }
@@ -206,7 +206,7 @@ impl<W: Direction> Indexed for Widened<W> {
     }
 }
 
-// From p over n of what is counted, in any direction.
+// From p over n of what is counted, in any direction. The programs go by `walk_by_index`.
 pub fn walk<W: Direction>(image: &Image, p: u32, what: Counted, n: u32) -> Walked
     requires { p ≤ count image.now.bytes }
     ensures { walk_of result ≡ walk (code_of what) n (W.ahead p (objects image.now.bytes)) }
@@ -254,7 +254,7 @@ mod tests {
         Ok(())
     }
 
-    // A block of two bytes, a filemark, a block of one byte.
+    // A block of two bytes, a filemark and a block of one byte, whose entries stand from the back; then N, D and L.
     #[test]
     fn walks_alike(rt: HostRuntime) -> Result<(), Fail> {
         let mut bytes = [0; 64];
